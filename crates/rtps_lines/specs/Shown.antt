@@ -1,5 +1,5 @@
 -- The text of a place, a guid, a time and a locator in a line is the text that `Display` shows.
-use Rattle.std.specs.Prelude.{◌≡◌, ℕ, ◌++◌, length, Some, codes}
+use Rattle.std.specs.Prelude.{◌≡◌, ◌++◌, length, Some, codes}
 use Rattle.std.specs.Fmt.{decimal}
 use Rattle.std.specs.Net.Text.{ipv4_text}
 use Rattle.hex.specs.Hex.{encode_lower}

@@ -1,6 +1,6 @@
 //! The line of a notice.
 
-ghost use Rattle.std.specs.Prelude.{◌≡◌, ◌++◌, OnOk, true};
+ghost use Rattle.std.specs.Prelude.{◌≡◌, ◌++◌, IfOk, OnOk, length, true};
 ghost use Rattle.std.specs.Io.{StartsWith};
 ghost use Rattle.std.specs.Fmt.{decimal};
 ghost use Rattle.rtps_types.specs.declared.identity.Guid as identity;
@@ -8,11 +8,12 @@ ghost use Rattle.rtps_types.specs.Number.{value_of};
 ghost use Rattle.rtps_reader.specs.Notice.{kind_view, notice_view};
 ghost use Rattle.rtps_lines.specs.Line.{◌then◌};
 ghost use Rattle.rtps_lines.specs.Guid.{guid_text};
-ghost use Rattle.rtps_lines.specs.Notice.{heard_line, notice_text, origin_text, told_text};
+ghost use Rattle.rtps_lines.specs.Notice.{heard_line, notice_text, origin_text, start_text, told_text};
 
 use crate::context::push_time;
 use crate::guid::push_guid;
-use crate::last_line::LastLine;
+use crate::last_lines::LastLines;
+use crate::last_start::LastStart;
 use crate::sample::{has_same_body, push_presented};
 use dds_topic::TextCatalog;
 use rtps_ascii::{push_number, push_octet, push_word};
@@ -20,12 +21,14 @@ use rtps_reader::{Notice, NoticeKind};
 use rtps_types::{Guid, Number, Timestamp};
 use std::alloc::{AllocError, Allocator};
 
-/// Appends the line of a notice of the reader of this rank, with a newline. `last` has the texts of
-/// the line before it, and the catalog.
+/// Appends the line of a notice of the reader of this rank, with a newline. `index` is the number of
+/// that reader's notices at the same place that came before. `last` has the lines that were
+/// formatted last, and the catalog.
 pub fn push_notice<'n, C: TextCatalog, A: Allocator, B: Allocator + Copy>(
     out: &mut Vec<u8, A>,
-    last: &mut LastLine<'_, 'n, C, B>,
+    last: &mut LastLines<'_, 'n, C, B>,
     rank: u32,
+    index: usize,
     notice: &'n Notice<C::Value>,
 ) -> Result<(), AllocError>
     ensures ok { OnOk result (out.new.items ≡ out.old.items ++
@@ -33,10 +36,28 @@ pub fn push_notice<'n, C: TextCatalog, A: Allocator, B: Allocator + Copy>(
     ensures keeps { StartsWith out.new.items out.old.items }
     ensures same { last.new ≡ last.old }
 {
-    last.push_start(out, notice.place)?;
+    last.push(out, rank, index, notice)
+}
+
+/// Formats the line of a notice of the reader of this rank, and appends it. Returns the length of
+/// what comes before the rank.
+pub(crate) fn push_heard<C: TextCatalog, A: Allocator, B: Allocator>(
+    out: &mut Vec<u8, A>,
+    start: &mut LastStart<B>,
+    catalog: &C,
+    rank: u32,
+    notice: &Notice<C::Value>,
+) -> Result<usize, AllocError>
+    ensures ok { OnOk result (out.new.items ≡ out.old.items ++
+        heard_line (C.text_of catalog.now) rank (notice_view C.view notice.now)) }
+    ensures length { IfOk result (λ n. n ≡ length (start_text notice.now.place)) }
+    ensures keeps { StartsWith out.new.items out.old.items }
+{
+    let length = start.push(out, notice.place)?;
     push_number(out, u64::from(rank))?;
     push_octet(out, b' ')?;
-    last.push_notice(out, notice)
+    push_told(out, catalog, notice)?;
+    Ok(length)
 }
 
 /// Appends what a line has of a notice after the rank of its reader.
@@ -115,6 +136,7 @@ pub(crate) fn has_same_kind<C: TextCatalog>(
         }
         (NoticeKind::Matched, NoticeKind::Matched) => true,
         (NoticeKind::Unmatched, NoticeKind::Unmatched) => true,
+        (NoticeKind::Lost { count }, NoticeKind::Lost { count: other }) => count == other,
         _ => false,
     }
 }

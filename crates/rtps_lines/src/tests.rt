@@ -1,6 +1,6 @@
 //! Tests of lines against lines written by hand.
 
-use crate::{LastLine, push_answer, push_match, push_notice, push_status};
+use crate::{LastLines, push_answer, push_match, push_notice, push_status};
 use dds_topic::{Catalog, Raw, RawValue};
 use rtps_reader::{Body, Notice, NoticeKind, Status};
 use rtps_types::{EntityId, Guid, GuidPrefix, KeyHash, Locator, Number, Place, PolicyId};
@@ -40,7 +40,7 @@ fn heard(alloc: Global, what: NoticeKind<RawValue>) -> Result<Vec<u8>, Fail> {
         what,
     };
     let mut out = Vec::new(alloc);
-    push_notice(&mut out, &mut LastLine::none(alloc, &Raw), 3, &notice)?;
+    push_notice(&mut out, &mut LastLines::none(alloc, &Raw), 3, 0, &notice)?;
     Ok(out)
 }
 
@@ -75,13 +75,16 @@ fn prints_what_is_reported_of_matches(rt: HostRuntime) -> Result<(), Fail> {
     Ok(())
 }
 
-/// Returns the lines of notices of the reader of rank 0, each with the cached texts of the line
-/// before it.
-fn lines_of(alloc: Global, notices: &[Notice<RawValue>]) -> Result<Vec<u8>, AllocError> {
-    let mut last = LastLine::none(alloc, &Raw);
+/// Returns the lines of notices, each of the reader of a rank and with the number of its notices
+/// before, by one list of the lines that were formatted last.
+fn lines_of(
+    alloc: Global,
+    notices: &[(u32, usize, Notice<RawValue>)],
+) -> Result<Vec<u8>, AllocError> {
+    let mut last = LastLines::none(alloc, &Raw);
     let mut out = Vec::new(alloc);
-    for notice in notices {
-        push_notice(&mut out, &mut last, 0, notice)?;
+    for (rank, index, notice) in notices {
+        push_notice(&mut out, &mut last, *rank, *index, notice)?;
     }
     Ok(out)
 }
@@ -93,10 +96,13 @@ fn prints_lines_one_after_the_other(rt: HostRuntime) -> Result<(), Fail> {
         submessage: 3,
         ..PLACE
     };
-    let notices = [(PLACE, WRITER), (PLACE, OTHER), (next, OTHER)].map(|(place, writer)| Notice {
-        place,
-        writer,
-        what: NoticeKind::Matched,
+    let notices = [(PLACE, WRITER), (PLACE, OTHER), (next, OTHER)].map(|(place, writer)| {
+        let notice = Notice {
+            place,
+            writer,
+            what: NoticeKind::Matched,
+        };
+        (0, 0, notice)
     });
     let out = lines_of(rt.alloc(), &notices)?;
     assert_eq!(rt;
@@ -123,23 +129,29 @@ fn sample(alloc: Global, writer: Guid, octet: u8) -> Result<Notice<RawValue>, Fa
     })
 }
 
-/// The same change twice, then one with another value, and one of another writer.
+/// Two changes that four readers present, and one of another writer.
 #[test]
-fn prints_samples_one_after_the_other(rt: HostRuntime) -> Result<(), Fail> {
+fn prints_samples_of_readers_one_after_the_other(rt: HostRuntime) -> Result<(), Fail> {
     let alloc = rt.alloc();
     let notices = [
-        sample(alloc, WRITER, 0xab)?,
-        sample(alloc, WRITER, 0xab)?,
-        sample(alloc, WRITER, 0xac)?,
-        sample(alloc, OTHER, 0xac)?,
+        (0, 0, sample(alloc, WRITER, 0xab)?),
+        (0, 1, sample(alloc, WRITER, 0xac)?),
+        (9, 0, sample(alloc, WRITER, 0xab)?),
+        (9, 1, sample(alloc, WRITER, 0xac)?),
+        (10, 0, sample(alloc, WRITER, 0xab)?),
+        (4, 0, sample(alloc, WRITER, 0xab)?),
+        (4, 1, sample(alloc, OTHER, 0xac)?),
     ];
     let out = lines_of(alloc, &notices)?;
     assert_eq!(rt;
         out.as_slice(),
         b"4294967296:2 reader 0 sample 0102030405060708090a0b0c000001c2 7 - value ab
-4294967296:2 reader 0 sample 0102030405060708090a0b0c000001c2 7 - value ab
 4294967296:2 reader 0 sample 0102030405060708090a0b0c000001c2 7 - value ac
-4294967296:2 reader 0 sample 0102030405060708090a0b0c000002c2 7 - value ac
+4294967296:2 reader 9 sample 0102030405060708090a0b0c000001c2 7 - value ab
+4294967296:2 reader 9 sample 0102030405060708090a0b0c000001c2 7 - value ac
+4294967296:2 reader 10 sample 0102030405060708090a0b0c000001c2 7 - value ab
+4294967296:2 reader 4 sample 0102030405060708090a0b0c000001c2 7 - value ab
+4294967296:2 reader 4 sample 0102030405060708090a0b0c000002c2 7 - value ac
 "
             .as_slice()
     );

@@ -92,26 +92,6 @@ both_after f g c place ns left xs rest m n front more told sent =
         → ◌≡◌ {A = Cursor} (record { rank = rank; notices = c.notices + a; answers = c.answers + x }) (record { rank = rank; notices = c.notices + b; answers = c.answers + y })
     after c rank e h = rw e (rw h refl)
 
--- if nothing is due, no line is added and the cursor is unchanged
-pub none_due_lines : {V M X : Type 0} (f : V → M) (g : X → Place × ReplyView) (text : M → List ℕ) (c : Cursor) (place : Place) (ns left : List (Notice V)) (xs rest : List X) (out : List ℕ)
-    → left ≡ drop c.notices ns → rest ≡ drop c.answers xs
-    → first_notices place (map (notice_view f) left) ≡ [] → first_answers place (map g rest) ≡ []
-    → out ≡ out ++ lists_lines text (map (notice_view f) ns) (map g xs) place c
-none_due_lines f g text c place ns left xs rest out front more quiet still =
-    both_lines f g text c place ns left xs rest out out out front more
-    (sym (append-nil out) ∙ ap (λ l. out ++ put_lines text (map (NoticeOf c.rank) l)) (sym quiet))
-    (sym (append-nil out) ∙ ap (λ l. out ++ answer_lines l) (sym still))
-
-pub none_due_after : {V M X : Type 0} (f : V → M) (g : X → Place × ReplyView) (c : Cursor) (place : Place) (ns left : List (Notice V)) (xs rest : List X)
-    → left ≡ drop c.notices ns → rest ≡ drop c.answers xs
-    → first_notices place (map (notice_view f) left) ≡ [] → first_answers place (map g rest) ≡ []
-    → c ≡ lists_after (map (notice_view f) ns) (map g xs) place c
-none_due_after f g c place ns left xs rest front more quiet still =
-    unmoved c ∙ both_after f g c place ns left xs rest 0 0 front more (ap length (sym quiet)) (ap length (sym still))
-  where
-    unmoved : (c : Cursor) → c ≡ record { rank = c.rank; notices = c.notices + 0; answers = c.answers + 0 }
-    unmoved c = rw (add-zero c.notices) (rw (add-zero c.answers) refl)
-
 -- ---- the reader of a rank
 
 pub told_some : {V M : Type 0} (f : V → M) (outputs : List (Output V Global)) (rank : ℕ) (o : Output V Global) → rank < length outputs → o ≡ get_or outputs rank o

@@ -8,7 +8,7 @@ ghost use Rattle.rtps_text.specs.Slices.{AreByPlace, AreTexts, IsSliceOf, merged
 use crate::slices::Cursors;
 use dds_participant::BatchOutput;
 use dds_topic::TextCatalog;
-use rtps_lines::LastLine;
+use rtps_lines::LastLines;
 use rtps_shards::map_apart;
 use rtps_types::Place;
 use std::alloc::{AllocError, Global};
@@ -100,7 +100,7 @@ where
             (parts_given C.view self.now.given.now) places.now cursors.said cursors.readers.items) }
         ensures keeps { StartsWith out.new.items out.old.items }
     {
-        let mut last = LastLine::none(self.alloc, self.catalog);
+        let mut last = LastLines::none(self.alloc, self.catalog);
         for place in places {
             cursors.push_place(out, &mut last, self.given, *place)?;
         }

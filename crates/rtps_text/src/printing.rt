@@ -9,7 +9,7 @@ ghost use Rattle.rtps_text.specs.Slices.{AreTexts, places_lines};
 use crate::slices::Cursors;
 use dds_participant::BatchOutput;
 use dds_topic::TextCatalog;
-use rtps_lines::LastLine;
+use rtps_lines::LastLines;
 use rtps_records::{Lines, RunFault};
 use std::alloc::{AllocError, Global};
 use std::io::Write;
@@ -41,7 +41,7 @@ pub(crate) fn print_places<'g, C: TextCatalog, W: Write>(
         (parts_given C.view given.now) given.now.places.items
         cursors.old.said cursors.old.readers.items)) }
 {
-    let mut last = LastLine::none(alloc, catalog);
+    let mut last = LastLines::none(alloc, catalog);
     for place in &given.places {
         cursors.push_place(&mut lines.text, &mut last, given, *place)?;
         lines.write_if_full()?;

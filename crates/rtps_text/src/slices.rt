@@ -1,6 +1,6 @@
 //! The lines of a batch's output, place by place.
 
-ghost use Rattle.std.specs.Prelude.{◌≡◌, ◌+◌, ◌≤◌, ◌++◌, ◌∷◌, [], IfOk, List, OnOk, drop, false, filter, length, map, not};
+ghost use Rattle.std.specs.Prelude.{◌≡◌, ◌+◌, ◌-◌, ◌≤◌, ◌++◌, ◌∷◌, [], IfOk, List, OnOk, drop, false, filter, length, map, not};
 ghost use Rattle.std.specs.Io.{StartsWith};
 ghost use Rattle.std.specs.List.Sorted.{IsPartitionedBy};
 ghost use Rattle.rtps_reader.specs.Notice.{answer_view, notice_view};
@@ -11,7 +11,7 @@ ghost use Rattle.rtps_text.specs.Slices.{AreByPlace, AreLeft, IsLeft, is_before,
 
 use dds_participant::BatchOutput;
 use dds_topic::TextCatalog;
-use rtps_lines::{LastLine, push_answer, push_notice};
+use rtps_lines::{LastLines, push_answer, push_notice};
 use rtps_reader::{Notice, Output};
 use rtps_types::{Place, Reply};
 use std::alloc::{AllocError, Allocator, Global};
@@ -40,7 +40,7 @@ pub(crate) struct Cursors {
 /// the rank of their reader, and the place.
 fn push_notices<'n, C: TextCatalog, A: Allocator, B: Allocator + Copy>(
     out: &mut Vec<u8, A>,
-    last: &mut LastLine<'_, 'n, C, B>,
+    last: &mut LastLines<'_, 'n, C, B>,
     spot: (u32, Place),
     notices: &'n [Notice<C::Value>],
 ) -> Result<usize, AllocError>
@@ -59,7 +59,7 @@ fn push_notices<'n, C: TextCatalog, A: Allocator, B: Allocator + Copy>(
         if notice.place != place {
             return Ok(count);
         }
-        push_notice(out, last, rank, notice)?;
+        push_notice(out, last, rank, count, notice)?;
         count += 1;
     }
     Ok(count)
@@ -119,25 +119,70 @@ pub(crate) fn rest<T>(items: &[T], from: usize) -> &[T]
     items.get(from..).unwrap_or(&[])
 }
 
-/// Whether the first of these notices is at this place.
-fn is_noticed<C: TextCatalog>(notices: &[Notice<C::Value>], place: Place) -> bool
+/// Whether the notice at index `at` is at this place.
+fn is_noticed<C: TextCatalog>(notices: &[Notice<C::Value>], at: usize, place: Place) -> bool
     ensures { result ≡ false
-        → first_notices place (map (notice_view C.view) notices.now) ≡ [] }
+        → first_notices place (map (notice_view C.view) (drop at notices.now)) ≡ [] }
 {
-    match notices.first() {
+    match notices.get(at) {
         Some(notice) => notice.place == place,
         None => false,
     }
 }
 
-/// Whether the first of these answers is at this place.
-fn is_answered(answers: &[(Place, Reply)], place: Place) -> bool
-    ensures { result ≡ false → first_answers place (map answer_view answers.now) ≡ [] }
+/// Whether the answer at index `at` is at this place.
+fn is_answered(answers: &[(Place, Reply)], at: usize, place: Place) -> bool
+    ensures { result ≡ false → first_answers place (map answer_view (drop at answers.now)) ≡ [] }
 {
-    match answers.first() {
+    match answers.get(at) {
         Some(answer) => answer.0 == place,
         None => false,
     }
+}
+
+/// Adds the lines of the notices from index `from` on that are at a place, and returns their number.
+/// `spot` is the rank of their reader, and the place.
+fn push_told<'n, C: TextCatalog, A: Allocator, B: Allocator + Copy>(
+    out: &mut Vec<u8, A>,
+    last: &mut LastLines<'_, 'n, C, B>,
+    spot: (u32, Place),
+    notices: &'n [Notice<C::Value>],
+    from: usize,
+) -> Result<usize, AllocError>
+    ensures within { IfOk result (λ n. n ≤ length notices.now - from) }
+    ensures count { IfOk result (λ n. n ≡
+        length (first_notices spot.1 (map (notice_view C.view) (drop from notices.now)))) }
+    ensures lines { OnOk result (out.new.items ≡ out.old.items ++
+        put_lines (C.text_of last.old) (map (NoticeOf spot.0)
+        (first_notices spot.1 (map (notice_view C.view) (drop from notices.now))))) }
+    ensures keeps { StartsWith out.new.items out.old.items }
+    ensures same { last.new ≡ last.old }
+{
+    if !is_noticed::<C>(notices, from, spot.1) {
+        return Ok(0);
+    }
+    push_notices(out, last, spot, rest(notices, from))
+}
+
+/// Adds the lines of the answers from index `from` on that are at this place, and returns their
+/// number.
+fn push_sent<A: Allocator>(
+    out: &mut Vec<u8, A>,
+    place: Place,
+    answers: &[(Place, Reply)],
+    from: usize,
+) -> Result<usize, AllocError>
+    ensures within { IfOk result (λ n. n ≤ length answers.now - from) }
+    ensures count { IfOk result (λ n. n ≡
+        length (first_answers place (map answer_view (drop from answers.now)))) }
+    ensures lines { OnOk result (out.new.items ≡ out.old.items ++
+        answer_lines (first_answers place (map answer_view (drop from answers.now)))) }
+    ensures keeps { StartsWith out.new.items out.old.items }
+{
+    if !is_answered(answers, from, place) {
+        return Ok(0);
+    }
+    push_answers(out, place, rest(answers, from))
 }
 
 /// Whether the reader of `rank` has a notice or an answer in the output of a batch.
@@ -179,7 +224,7 @@ impl Cursor {
     fn push_output<'n, C: TextCatalog, A: Allocator, B: Allocator + Copy>(
         &mut self,
         out: &mut Vec<u8, A>,
-        last: &mut LastLine<'_, 'n, C, B>,
+        last: &mut LastLines<'_, 'n, C, B>,
         output: &'n Output<C::Value>,
         place: Place,
     ) -> Result<(), AllocError>
@@ -192,13 +237,8 @@ impl Cursor {
             (map answer_view output.now.answers.items) place self.old) }
         ensures same { last.new ≡ last.old }
     {
-        let notices = rest(&output.notices, self.notices);
-        let answers = rest(&output.answers, self.answers);
-        if !is_noticed::<C>(notices, place) && !is_answered(answers, place) {
-            return Ok(());
-        }
-        let told = push_notices(out, last, (self.rank, place), notices)?;
-        let sent = push_answers(out, place, answers)?;
+        let told = push_told(out, last, (self.rank, place), &output.notices, self.notices)?;
+        let sent = push_sent(out, place, &output.answers, self.answers)?;
         self.notices += told;
         self.answers += sent;
         Ok(())
@@ -209,7 +249,7 @@ impl Cursor {
     fn push_part<'n, C: TextCatalog, A: Allocator, B: Allocator + Copy>(
         &mut self,
         out: &mut Vec<u8, A>,
-        last: &mut LastLine<'_, 'n, C, B>,
+        last: &mut LastLines<'_, 'n, C, B>,
         given: &'n BatchOutput<C::Value>,
         place: Place,
     ) -> Result<(), AllocError>
@@ -279,7 +319,7 @@ impl Cursors {
     pub(crate) fn push_place<'n, C: TextCatalog, A: Allocator, B: Allocator + Copy>(
         &mut self,
         out: &mut Vec<u8, A>,
-        last: &mut LastLine<'_, 'n, C, B>,
+        last: &mut LastLines<'_, 'n, C, B>,
         given: &'n BatchOutput<C::Value>,
         place: Place,
     ) -> Result<(), AllocError>
