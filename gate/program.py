@@ -15,7 +15,7 @@ MOST_INPUT = 2 << 20
 """Octets of input that an answer that is not proved is given for: it is some 400 times slower than the program."""
 UNPROVED = """\
 run: this answer comes from a build that is not proved. ./check proves and tests everything; ./run --prove proves and
-run: builds alone, in about an hour on four processors, and from then on ./run starts at once."""
+run: builds alone, in an hour or two on four processors, and from then on ./run starts at once."""
 LIMITS = """\
 run: such an answer takes about two minutes, each time anew; it comes at the end and has at most 1 MiB."""
 
