@@ -40,8 +40,8 @@ pub(super) struct Wire<'a> {
     standing: usize,
     /// The datagrams that were sent, each with its destination.
     sent: Vec<(Locator, Vec<u8>)>,
-    /// The moment that the clock gives after each wait; 0 after those of the list.
-    pub(super) moments: &'a [u64],
+    /// The moments that the clock gives after the first waits; after later ones it gives 0.
+    pub(super) moments: [u64; 3],
     /// The number of times that the clock was read.
     pub(super) read: usize,
     alloc: Global,
@@ -61,7 +61,7 @@ impl<'a> Wire<'a> {
             taken: 0,
             standing: 0,
             sent: Vec::new(alloc),
-            moments: &[],
+            moments: [0; 3],
             read: 0,
             alloc,
         }

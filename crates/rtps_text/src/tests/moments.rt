@@ -5,10 +5,8 @@ use super::listening::{After, Wire, live_setup};
 use super::matches::{ANNOUNCES, BLUE, COMES, HEADER, OFFERS, RECORD};
 use super::runs::{Given, PACES, config_of, prints_and_refuses};
 use super::{octets, text};
-use crate::{Pace, listen};
-use std::alloc::Global;
+use crate::listen;
 use std::test::Fail;
-use std::thread::Threads;
 
 /// `RDG2`, a participant at moment 0 whose lease is 100 s, and its reliable writer of squares at 1.
 const KNOWN: [&str; 13] = [
@@ -60,35 +58,27 @@ fn a_lease_ends_after_its_last_moment(rt: HostRuntime) -> Result<(), Fail> {
     Ok(())
 }
 
-/// Whether these lines are printed where the writer is announced in the first turn, no datagram
-/// comes in the others, and the clock gives one of these moments after each wait.
-fn prints_by_the_clock<T: Threads + Sync>(
-    rt: &T,
-    alloc: Global,
-    pace: Pace,
-    moments: &[u64],
-    lines: &[&str],
-) -> Result<bool, Fail> {
-    let comes = octets(alloc, &KNOWN[3..5])?;
-    let offers = octets(alloc, &KNOWN[7..])?;
-    let datagrams = [comes.as_slice(), offers.as_slice()];
-    let mut wire = Wire::new(alloc, &datagrams, 2, After::Nothing);
-    wire.moments = moments;
-    let setup = live_setup(config_of(alloc, Given::Unmatched)?, pace, 9, 3);
-    let mut out = Vec::new(alloc);
-    let outcome = listen(rt, alloc, setup, &mut wire, &mut out);
-    let text = text(alloc, lines)?;
-    Ok(outcome == Ok(()) && out.as_slice() == text.as_bytes() && wire.read == moments.len())
-}
-
+/// A turn in which the writer is announced, and turns without datagrams.
 #[test]
 fn a_lease_ends_in_a_turn_without_datagrams(rt: HostRuntime) -> Result<(), Fail> {
-    let alloc = rt.alloc();
-    let ends = [MATCHED, UNMATCHED];
-    for pace in PACES {
-        assert!(rt; prints_by_the_clock(&rt, alloc, pace, &[7, 100_007, 100_008], &ends)?);
-        assert!(rt; prints_by_the_clock(&rt, alloc, pace, &[7, 7, 7], &[MATCHED])?);
-        assert!(rt; prints_by_the_clock(&rt, alloc, pace, &[100_008, 7, 200_008], &[MATCHED])?);
+    let comes = octets(rt.alloc(), &KNOWN[3..5])?;
+    let offers = octets(rt.alloc(), &KNOWN[7..])?;
+    let datagrams = [comes.as_slice(), offers.as_slice()];
+    for (moments, lines) in [
+        ([7, 100_007, 100_008], [MATCHED, UNMATCHED].as_slice()),
+        ([7, 7, 7], [MATCHED].as_slice()),
+        ([100_008, 7, 200_008], [MATCHED].as_slice()),
+    ] {
+        for pace in PACES {
+            let mut wire = Wire::new(rt.alloc(), &datagrams, 2, After::Nothing);
+            wire.moments = moments;
+            let setup = live_setup(config_of(rt.alloc(), Given::Unmatched)?, pace, 9, 3);
+            let mut out = Vec::new(rt.alloc());
+            assert_eq!(rt; listen(&rt, rt.alloc(), setup, &mut wire, &mut out), Ok(()));
+            let said = text(rt.alloc(), lines)?;
+            assert_eq!(rt; out.as_slice(), said.as_bytes());
+            assert_eq!(rt; wire.read, 3, "once for each wait");
+        }
     }
     Ok(())
 }
