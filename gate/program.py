@@ -17,7 +17,7 @@ UNPROVED = """\
 run: this answer comes from a build that is not proved. ./check proves and tests everything; ./run --prove proves and
 run: builds alone, in an hour or two on four processors, and from then on ./run starts at once."""
 LIMITS = """\
-run: such an answer takes about two minutes, each time anew; it comes at the end and has at most 1 MiB."""
+run: such an answer takes one to four minutes, each time anew; it comes at the end and has at most 1 MiB."""
 
 
 def prove_and_build(top, toolchain, folder, say, work=steps):
