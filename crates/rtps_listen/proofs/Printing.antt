@@ -12,7 +12,8 @@ use Rattle.rtps_records.specs.declared.fault.RunFault.TheVariants.{CannotRead, N
 use Rattle.rtps_lines.specs.EventLines.{lines_of}
 use Rattle.rtps_explain.specs.Explained.{explained_text}
 use Rattle.rtps_text.specs.Caches.{StopsLate}
-use Rattle.rtps_text.specs.Listened.{Limits, LiveRun, limits_of}
+use Rattle.rtps_records.specs.Traffic.{Traffic}
+use Rattle.rtps_text.specs.Listened.{Limits, Listened, LiveRun, limits_of}
 use Rattle.rtps_text.specs.Taken.{StopsBy}
 use Rattle.rtps_text.specs.declared.live_fault.LiveFault.{LiveFault}
 use Rattle.rtps_text.specs.declared.live_fault.LiveFault.TheVariants as live_fault
@@ -21,15 +22,16 @@ use Rattle.rtps_text.specs.declared.setup.LiveSetup.{LiveSetup}
 use Rattle.rtps_text.specs.declared.setup.Setup.{Setup}
 use Rattle.rtps_listen.specs.Addresses.{IsJoinCause}
 use Rattle.rtps_listen.specs.Configs.{IsCause, IsConfigOf}
-use Rattle.rtps_listen.specs.Domain.{Ends, ListensBy, live_run_of}
+use Rattle.rtps_udp.specs.declared.binding.Binding.{Binding}
+use Rattle.rtps_listen.specs.Domain.{Hears, IsBefore, Joins, ListensBy, live_run_of}
 use Rattle.rtps_listen.specs.Identities.{WritesPrefix}
-use Rattle.rtps_listen.specs.Printed.{EndsBy, IsBefore, IsFirst, IsUnopened, Prints, Writes, kept_text, run_text}
+use Rattle.rtps_listen.specs.Printed.{EndsBy, IsFirst, IsUnopened, Prints, Writes, kept_text, run_text}
 use Rattle.rtps_listen.specs.Setup.{IsCacheSetupOf, IsLiveSetupOf, IsSetupOf, history_of}
 use Rattle.rtps_listen.specs.Status.{live_fault_of}
 use Rattle.rtps_listen.specs.declared.fault.ListenFault.{ListenFault}
 use Rattle.rtps_listen.specs.declared.fault.ListenFault.TheVariants.{NoText, BadPrefix, BadWriter, BadAddress, Socket, Run}
 use Rattle.rtps_listen.specs.declared.options.Options.{Options}
-use Rattle.rtps_listen.specs.declared.request.Request.TheVariants.{Dump, Explain, Listen, Replay, Samples}
+use Rattle.rtps_listen.specs.declared.request.Request.TheVariants.{Dump, Explain, Replay, Samples}
 use Rattle.rtps_listen.proofs.Refused.{IsLive, IsRun}
 
 -- what is wrong with options is found before a domain is joined
@@ -123,10 +125,11 @@ pub keeps_none : (o : Options) (holds : List ℕ → Option (List ℕ)) (old : O
 unfolding Prints
 keeps_none o holds old s fault is h = inl (ends IsFirst old s fault is h)
 
-pub hears_none : (o : Options) (holds : List ℕ → Option (List ℕ)) (old : Option (List ℕ)) (s : Result (Unit {0}) ListenFault) (fault : ListenFault)
-    → IsErrAnd s (λ e. e ≡ fault) → IsBefore fault → Prints (Listen o) holds old old s
-unfolding Prints
-hears_none o holds old s fault is h = inl (ends IsBefore old s fault is h)
+pub hears_none : {N : Type 0} (joined : N → Binding → Type 0) (traffic : N → Option (List Traffic)) (o : Options) (before after : N) (old : Option (List ℕ))
+    (s : Result (Unit {0}) ListenFault) (fault : ListenFault)
+    → IsErrAnd s (λ e. e ≡ fault) → IsBefore fault → traffic after ≡ traffic before → Hears joined traffic o before after old old s
+unfolding Hears
+hears_none joined traffic o before after old s fault is h quiet = inl (ends IsBefore old s fault is h, quiet)
 
 -- all of the text was written, or what a fault leaves
 pub writes_all : (late : Bool) (text : List Record → List ℕ) (file all old new : Option (List ℕ)) → file ≡ all
@@ -196,26 +199,36 @@ abbrev pub IsPassed : Result (Unit {0}) LiveFault → Result (Unit {0}) ListenFa
 IsPassed (Ok u) s = s ≡ Ok tt
 IsPassed (Err fault) s = s ≡ Err (live_fault_of fault)
 
-listens : (made : LiveRun) (limits : Limits) (old new : Option (List ℕ)) (r : Result (Unit {0}) LiveFault) (s : Result (Unit {0}) ListenFault)
-    → Ends made limits old new r → IsPassed r s → ListensBy made limits old new s
+listens : (made : LiveRun) (limits : Limits) (before after : Option (List Traffic)) (old new : Option (List ℕ)) (r : Result (Unit {0}) LiveFault)
+    (s : Result (Unit {0}) ListenFault) → Listened made limits r before after old new → IsPassed r s → ListensBy made limits before after old new s
 unfolding ListensBy
-listens made limits old new (Ok u) s h e = rw e h
-listens made limits old new (Err live_fault.Socket) s h e = rw e (inr h)
-listens made limits old new (Err (live_fault.Run fault)) s h e = rw e h
+listens made limits before after old new (Ok u) s h e = rw e h
+listens made limits before after old new (Err live_fault.Socket) s h e = rw e h
+listens made limits before after old new (Err (live_fault.Run fault)) s h e = rw e h
 
-pub hears : {C : Type 0} (o : Options) (config : Config) (catalog : C) (setup : LiveSetup C) (raw : Bool) (holds : List ℕ → Option (List ℕ)) (old new : Option (List ℕ))
-    (r : Result (Unit {0}) LiveFault) (s : Result (Unit {0}) ListenFault) → IsConfigOf o config → o.raw ≡ raw → IsLiveSetupOf o config catalog setup
-    → Ends (live_run_of raw setup.run.config setup.run.summary) (limits_of setup.datagrams setup.turns) old new r
-    → IsPassed r s → Prints (Listen o) holds old new s
-unfolding Prints
-hears o config catalog setup raw holds old new r s is same by h passed = inr (
-  config,
-  is,
-  listens (live_run_of o.raw config o.summary) (limits_of o.count o.turns) old new r s
-      (subst (λ b. Ends (live_run_of b config o.summary) (limits_of o.count o.turns) old new r) (sym same)
-      (subst (λ k. Ends (live_run_of raw k o.summary) (limits_of o.count o.turns) old new r) by.run.config
-      (subst (λ u. Ends (live_run_of raw setup.run.config u) (limits_of o.count o.turns) old new r) by.run.summary
-      (subst (λ n. Ends (live_run_of raw setup.run.config setup.run.summary) (limits_of n o.turns) old new r) by.datagrams
-      (subst (λ n. Ends (live_run_of raw setup.run.config setup.run.summary) (limits_of setup.datagrams n) old new r) by.turns h)))))
-      passed,
-)
+-- the run that the setup asks for is the one that the options ask for
+asked_run : {C : Type 0} (o : Options) (config : Config) (catalog : C) (setup : LiveSetup C) (raw : Bool) (before after : Option (List Traffic))
+    (old new : Option (List ℕ)) (r : Result (Unit {0}) LiveFault) → o.raw ≡ raw → IsLiveSetupOf o config catalog setup
+    → Listened (live_run_of raw setup.run.config setup.run.summary) (limits_of setup.datagrams setup.turns) r before after old new
+    → Listened (live_run_of o.raw config o.summary) (limits_of o.count o.turns) r before after old new
+asked_run o config catalog setup raw before after old new r same by h =
+    subst (λ b. Listened (live_run_of b config o.summary) (limits_of o.count o.turns) r before after old new) (sym same)
+    (subst (λ k. Listened (live_run_of raw k o.summary) (limits_of o.count o.turns) r before after old new) by.run.config
+    (subst (λ u. Listened (live_run_of raw setup.run.config u) (limits_of o.count o.turns) r before after old new) by.run.summary
+    (subst (λ n. Listened (live_run_of raw setup.run.config setup.run.summary) (limits_of n o.turns) r before after old new) by.datagrams
+    (subst (λ n. Listened (live_run_of raw setup.run.config setup.run.summary) (limits_of setup.datagrams n) r before after old new) by.turns h))))
+
+-- by joining alone nothing is called, so all calls are those of the run
+pub hears : {C N : Type 0} (o : Options) (config : Config) (catalog : C) (setup : LiveSetup C) (raw : Bool) (joined : N → Binding → Type 0)
+    (traffic : N → Option (List Traffic)) (before start after : N) (old new : Option (List ℕ)) (r : Result (Unit {0}) LiveFault)
+    (s : Result (Unit {0}) ListenFault) → IsConfigOf o config → o.raw ≡ raw → IsLiveSetupOf o config catalog setup
+    → Joins joined traffic o before → traffic start ≡ traffic before
+    → Listened (live_run_of raw setup.run.config setup.run.summary) (limits_of setup.datagrams setup.turns) r (traffic start) (traffic after) old new
+    → IsPassed r s → Hears joined traffic o before after old new s
+unfolding Hears
+hears o config catalog setup raw joined traffic before start after old new r s is same by joins quiet h passed =
+    let made = live_run_of raw setup.run.config setup.run.summary in
+    let begun : Listened made (limits_of setup.datagrams setup.turns) r (traffic before) (traffic after) old new =
+    subst (λ b. Listened made (limits_of setup.datagrams setup.turns) r b (traffic after) old new) quiet h in
+    let asked = asked_run o config catalog setup raw (traffic before) (traffic after) old new r same by begun in
+    inr (config, is, joins, listens (live_run_of o.raw config o.summary) (limits_of o.count o.turns) (traffic before) (traffic after) old new r s asked passed)

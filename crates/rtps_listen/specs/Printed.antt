@@ -1,5 +1,5 @@
--- What is printed, by what the words ask for.
-use Rattle.std.specs.Prelude.{◌≡◌, ℕ, List, Bool, true, false, Option, None, ◌⊎◌, Result, Ok, Err, IfErr, IsErr}
+-- What is printed of a file, by what the words ask for.
+use Rattle.std.specs.Prelude.{ℕ, List, Bool, true, false, Option, None, ◌⊎◌, Result, Ok, Err, IfErr, IsErr}
 use Rattle.std.specs.Io.KnownBytes.{Keeps}
 use Rattle.rtps_types.specs.declared.identity.GuidPrefix.{GuidPrefix}
 use Rattle.dds_topic.specs.RawMeaning.{raw_decoding}
@@ -14,11 +14,9 @@ use Rattle.rtps_records.specs.declared.fault.RunFault.TheVariants.{CannotRead, N
 use Rattle.rtps_lines.specs.EventLines.{lines_of}
 use Rattle.rtps_explain.specs.Explained.{explained_text}
 use Rattle.rtps_text.specs.Entries.{samples_text}
-use Rattle.rtps_text.specs.Listened.{limits_of}
 use Rattle.rtps_text.specs.Replayed.{replay_text}
 use Rattle.rtps_text.specs.Taken.{StopsBy}
 use Rattle.rtps_listen.specs.Configs.{IsConfigOf}
-use Rattle.rtps_listen.specs.Domain.{ListensBy, live_run_of}
 use Rattle.rtps_listen.specs.Identities.{WritesPrefix}
 use Rattle.rtps_listen.specs.Setup.{history_of}
 use Rattle.rtps_listen.specs.declared.fault.ListenFault.{ListenFault}
@@ -60,19 +58,14 @@ IsFirst (Run NoMemory) = Unit {0}
 IsFirst (Run fault) = ⊥
 IsFirst fault = Unit {0}
 
--- a fault that is found before a domain is joined: the only fault of a run is want of memory
-abbrev pub IsBefore : ListenFault → Type 0
-IsBefore (Run fault) = fault ≡ NoMemory
-IsBefore fault = Unit {0}
-
 -- it ended with such a fault, and nothing was written
 abbrev pub EndsBy : (ListenFault → Type 0) → Option (List ℕ) → Option (List ℕ)
     → Result (Unit {0}) ListenFault → Type 0
 EndsBy is_fault old new result = IsErr result × IfErr result is_fault × Keeps old new
 
 -- What is written if this is asked for, with files of these names: the text of the file, by the
--- prefix that `--own` writes or by the configuration of the options; or what `listen` writes.
--- Nothing is written if the options are refused, a file can't be opened, or memory runs out before.
+-- prefix that `--own` writes or by the configuration of the options. Nothing is written if the
+-- options are refused, a file can't be opened, or memory runs out before. `listen` is of no file.
 unfoldable pub Prints : Request → (List ℕ → Option (List ℕ)) → Option (List ℕ)
     → Option (List ℕ) → Result (Unit {0}) ListenFault → Type 0
 Prints (Dump options) holds old new result =
@@ -93,8 +86,4 @@ Prints (Samples options) holds old new result =
     ⊎ ((config : Config) × IsConfigOf options config
     × Writes true (kept_text options.raw config options.summary (history_of options.keep))
     (holds options.file.now) old new result)
-Prints (Listen options) holds old new result =
-    EndsBy IsBefore old new result
-    ⊎ ((config : Config) × IsConfigOf options config
-    × ListensBy (live_run_of options.raw config options.summary)
-    (limits_of options.count options.turns) old new result)
+Prints (Listen options) holds old new result = ⊥

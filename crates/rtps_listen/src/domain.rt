@@ -1,8 +1,8 @@
 //! What is printed of the datagrams of a domain.
 
-ghost use Rattle.std.specs.Prelude.{ℕ, IfErr, IfOk, List, OnOk, Option};
-ghost use Rattle.rtps_listen.specs.Addresses.{IsAddressText, IsBindingOf, IsJoinCause};
-ghost use Rattle.rtps_listen.specs.Printed.{Prints};
+ghost use Rattle.std.specs.Prelude.{◌≡◌, IfErr, OnOk};
+ghost use Rattle.rtps_listen.specs.Addresses.{IsAddressText, IsJoinCause};
+ghost use Rattle.rtps_listen.specs.Domain.{Hears, Joins};
 ghost use Rattle.rtps_listen.specs.Request.{RefusesFirst};
 ghost use Rattle.rtps_listen.specs.declared.request.Request.TheVariants.{Listen};
 ghost use Rattle.rtps_udp.specs.declared.binding.Binding.{Binding};
@@ -20,31 +20,31 @@ use std::io::Write;
 use std::net::Ipv4Addr;
 use std::thread::Threads;
 
-/// Where the datagrams of domains are exchanged.
-pub trait Domains {
-    /// What takes part in a domain.
-    type Network: Exchange + Drop;
+/// A network, which exchanges the datagrams of a domain once it is joined.
+pub trait Network: Exchange {
+    ghost joined: { Self → Binding → Type 0 };
 
-    ghost joins: { Self.Network → Binding → Type 0 };
-
-    /// Takes part in a domain, as its first participant, at an address of this machine.
-    fn join(&self, alloc: Global, binding: Binding) -> Result<Self::Network, SocketFault>
-        ensures { IfOk result (λ network. joins network binding) };
+    /// Takes part in a domain, as its first participant, at an address of this machine. By this
+    /// alone nothing is received or sent.
+    fn join(&mut self, alloc: Global, binding: Binding) -> Result<(), SocketFault>
+        ensures joined { OnOk result (joined self.new binding) }
+        ensures quiet { Self.traffic self.new ≡ Self.traffic self.old };
 }
 
-/// Takes part in the domain that options name, at the address that they name.
+/// Takes part in the domain that options name, at the address that they name. No datagram is
+/// received or sent by this.
 ///
 /// `BadAddress` if `--address` isn't an IPv4 address in dotted notation, and `Socket` if there are
 /// no sockets for the domain at the address.
-fn join<D: Domains>(
+fn join<N: Network>(
     alloc: Global,
-    domains: &D,
+    network: &mut N,
     options: &Options<'_>,
-) -> Result<D::Network, ListenFault>
-    ensures joins { IfOk result (λ network.
-        (binding : Binding) × IsBindingOf options.now binding × D.joins network binding) }
+) -> Result<(), ListenFault>
+    ensures joins { OnOk result (Joins N.joined N.traffic options.now network.old) }
     ensures address { OnOk result (IsAddressText options.now.address.now) }
     ensures fault { IfErr result (IsJoinCause options.now) }
+    ensures quiet { N.traffic network.new ≡ N.traffic network.old }
 {
     let Ok(address) = options.address.parse::<Ipv4Addr>() else {
         return Err(ListenFault::BadAddress);
@@ -53,8 +53,8 @@ fn join<D: Domains>(
         domain: options.domain,
         address,
     };
-    match domains.join(alloc, binding) {
-        Ok(network) => Ok(network),
+    match network.join(alloc, binding) {
+        Ok(()) => Ok(()),
         Err(_) => Err(ListenFault::Socket),
     }
 }
@@ -65,25 +65,23 @@ fn join<D: Domains>(
 /// What is wrong with the options is refused before the domain is joined: `BadPrefix`, `BadWriter`
 /// and `BadAddress` in this order. `Socket` if it can't be joined, or if no datagram can be waited
 /// for or received any more. Any other fault is that of the run.
-pub fn listen_in<D: Domains, W: Write, T: Threads + Sync>(
+pub fn listen_in<N: Network, W: Write, T: Threads + Sync>(
     rt: &T,
     alloc: Global,
-    domains: &D,
+    network: &mut N,
     options: &Options<'_>,
     writer: &mut W,
 ) -> Result<(), ListenFault>
     ensures refused { RefusesFirst (Listen options.now) result }
-    ensures joined { OnOk result ((binding : Binding) × (network : D.Network)
-        × IsBindingOf options.now binding × D.joins network binding) }
-    ensures prints { (holds : List ℕ → Option (List ℕ)) → Prints (Listen options.now) holds
+    ensures hears { Hears N.joined N.traffic options.now network.old network.new
         (W.contents writer.old) (W.contents writer.new) result }
 {
     let config = config_of(alloc, options)?;
-    let mut network = join(alloc, domains, options)?;
+    join(alloc, network, options)?;
     if options.raw {
         let setup = live_setup_of(options, config, Raw);
-        return Ok(listen(rt, alloc, setup, &mut network, writer)?);
+        return Ok(listen(rt, alloc, setup, network, writer)?);
     }
     let setup = live_setup_of(options, config, Shapes);
-    Ok(listen(rt, alloc, setup, &mut network, writer)?)
+    Ok(listen(rt, alloc, setup, network, writer)?)
 }

@@ -2,7 +2,7 @@
 //! datagrams of a domain.
 #![tactic(auto)]
 
-ghost use Rattle.std.specs.Prelude.{◌≡◌, None, OnOk};
+ghost use Rattle.std.specs.Prelude.{◌≡◌, IfSome, None, OnOk};
 ghost use Rattle.std.specs.Io.KnownBytes.{Appends};
 ghost use Rattle.std.specs.Process.{exit_status};
 ghost use Rattle.rtps_listen.specs.Status.{fault_line, status_after};
@@ -18,15 +18,16 @@ mod request;
 mod setup;
 mod words;
 
-use domain::Domains;
+use domain::Network;
 use fault::ListenFault;
 use files::RecordFiles;
 use program::{Failure, run};
-use rtps_records::RunFault;
+use rtps_records::{Exchange, Receive, RunFault};
+use rtps_types::Locator;
 use rtps_udp::{Binding, SocketFault, Sockets};
 use std::alloc::Global;
 use std::fs::File;
-use std::io::{self, Read, Stdin, Write};
+use std::io::{self, ErrorKind, Read, Stdin, Write};
 use std::process::ExitCode;
 use std::thread::Threads;
 
@@ -54,11 +55,11 @@ fn run_line<T: Threads + Sync>(rt: &HostRuntime, threads: &T) -> Result<(), Fail
         Ok(words) => words,
         Err(fault) => return Err(Failure::Fault(fault)),
     };
-    let host = Host { rt };
+    let mut host = Host { rt, sockets: None };
     run(
         threads,
         rt.alloc(),
-        &host,
+        &mut host,
         words.as_slice(),
         &mut rt.stdout(),
     )
@@ -83,6 +84,8 @@ fn words_given(rt: &HostRuntime) -> Result<Vec<String>, ListenFault> {
 #[derive(Drop)]
 struct Host<'a> {
     rt: &'a HostRuntime,
+    /// The sockets of the domain that was joined.
+    sockets: Option<Sockets<'a, HostRuntime>>,
 }
 
 /// A file of this machine, or its standard input.
@@ -105,17 +108,51 @@ impl RecordFiles for Host<'_> {
     }
 }
 
-impl<'a> Domains for Host<'a> {
-    type Network = Sockets<'a, HostRuntime>;
+impl Receive for Host<'_> {
+    ghost traffic = { λ _. None };
 
-    ghost joins = { λ sockets binding. bound_address sockets ≡ binding.address };
+    fn receive(&mut self, room: &mut [u8]) -> io::Result<Option<usize>> {
+        match &mut self.sockets {
+            Some(sockets) => sockets.receive(room),
+            None => Err(not_joined()),
+        }
+    }
+}
 
-    fn join(
-        &self,
-        alloc: Global,
-        binding: Binding,
-    ) -> Result<Sockets<'a, HostRuntime>, SocketFault> {
-        Sockets::bind_at(self.rt, self.rt, alloc, binding)
+impl Exchange for Host<'_> {
+    fn wait(&mut self) -> io::Result<()> {
+        match &mut self.sockets {
+            Some(sockets) => sockets.wait(),
+            None => Err(not_joined()),
+        }
+    }
+
+    fn moment(&mut self) -> u64 {
+        match &mut self.sockets {
+            Some(sockets) => sockets.moment(),
+            None => 0,
+        }
+    }
+
+    fn send(&mut self, to: Locator, octets: &[u8]) {
+        if let Some(sockets) = &mut self.sockets {
+            sockets.send(to, octets);
+        }
+    }
+}
+
+/// The fault of a network that takes part in no domain.
+fn not_joined() -> io::Error {
+    io::Error::from(ErrorKind::NotConnected)
+}
+
+impl Network for Host<'_> {
+    ghost joined = { λ host binding.
+        IfSome host.sockets (λ sockets. bound_address sockets ≡ binding.address) };
+
+    fn join(&mut self, alloc: Global, binding: Binding) -> Result<(), SocketFault> {
+        self.sockets = Some(Sockets::bind_at(self.rt, self.rt, alloc, binding)?);
+        Ok(())
     }
 }
 

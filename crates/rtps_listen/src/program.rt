@@ -3,7 +3,7 @@
 ghost use Rattle.std.specs.Prelude.{map};
 ghost use Rattle.rtps_listen.specs.Program.{Does, Leaves};
 
-use crate::domain::{Domains, listen_in};
+use crate::domain::{Network, listen_in};
 use crate::fault::ListenFault;
 use crate::files::{RecordFiles, dump_file, explain_file, replay_file, samples_file};
 use crate::request::Request;
@@ -24,21 +24,21 @@ pub enum Failure {
     Fault(ListenFault),
 }
 
-/// Does what the words ask for, with the files and the domains of a host. The first word is the
+/// Does what the words ask for, with the files and the network of a host. The first word is the
 /// program's name; `rt` starts the workers.
 ///
 /// A bad line is a [`Failure::Line`], and then nothing is opened, joined or written. Any other
-/// failure is the fault of what was asked for, or `NoMemory`.
+/// failure is the fault of what was asked for, or `NoMemory`. Only `listen` calls the network.
 #[tactic(auto, unfolding(crate::specs::Program::Leaves))]
-pub fn run<H: RecordFiles + Domains, S: AsStr, W: Write + Send, T: Threads + Sync>(
+pub fn run<H: RecordFiles + Network, S: AsStr, W: Write + Send, T: Threads + Sync>(
     rt: &T,
     alloc: Global,
-    host: &H,
+    host: &mut H,
     words: &[S],
     writer: &mut W,
 ) -> Result<(), Failure>
-    ensures { Leaves (map S.text words.entry.now) (H.holds host.now)
-        (W.contents writer.old) (W.contents writer.new) result }
+    ensures { Leaves (map S.text words.entry.now) (H.holds host.old) H.joined H.traffic
+        host.old host.new (W.contents writer.old) (W.contents writer.new) result }
 {
     let request = match read_words(alloc, words) {
         Ok(request) => request,
@@ -55,15 +55,15 @@ pub fn run<H: RecordFiles + Domains, S: AsStr, W: Write + Send, T: Threads + Syn
 
 /// Does what the request asks for.
 #[tactic(auto, unfolding(crate::specs::Program::Does))]
-fn perform<H: RecordFiles + Domains, W: Write + Send, T: Threads + Sync>(
+fn perform<H: RecordFiles + Network, W: Write + Send, T: Threads + Sync>(
     rt: &T,
     alloc: Global,
-    host: &H,
+    host: &mut H,
     request: &Request<'_>,
     writer: &mut W,
 ) -> Result<(), ListenFault>
-    ensures { Does request.now (H.holds host.now)
-        (W.contents writer.old) (W.contents writer.new) result }
+    ensures { Does request.now (H.holds host.old) H.joined H.traffic
+        host.old host.new (W.contents writer.old) (W.contents writer.new) result }
 {
     match request {
         Request::Dump(options) => dump_file(rt, alloc, host, options, writer),
