@@ -12,7 +12,7 @@ pub enum Content<V> {
 }
 
 /// An entry of a cache: a value, or the disposal of an instance.
-#[derive(Debug, Drop)]
+#[derive(Drop)]
 pub(crate) struct Entry<V> {
     /// The place in the run of the event that made it.
     pub place: Place,

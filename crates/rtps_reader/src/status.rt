@@ -27,7 +27,7 @@ pub struct Status {
 }
 
 /// The totals of a reader: its status without the number of matches now.
-#[derive(Clone, Copy, Debug)]
+#[derive(Clone, Copy)]
 pub(crate) struct Counts {
     pub(crate) matched_total: u32,
     pub(crate) incompatible_total: u32,

@@ -3,7 +3,7 @@
 use crate::piece::Piece;
 
 /// A record as it is read: all of it but the octets of a datagram.
-#[derive(Clone, Copy, Debug)]
+#[derive(Clone, Copy)]
 pub(crate) enum Head {
     /// A datagram.
     Datagram(Piece),

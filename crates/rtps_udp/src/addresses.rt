@@ -11,7 +11,7 @@ use rtps_types::Locator;
 use std::net::{Ipv4Addr, SocketAddrV4};
 
 /// The purpose of a socket: what it receives.
-#[derive(Clone, Copy, Debug, PartialEq, Eq)]
+#[derive(Clone, Copy, PartialEq, Eq)]
 pub(crate) enum Purpose {
     /// The datagrams of discovery.
     Metatraffic,

@@ -8,7 +8,7 @@ use rtps_params::{Front, Param, read_front};
 use rtps_types::{Endian, KeyHash, get_octets};
 
 /// The parameters of inline QoS that are used here.
-#[derive(Clone, Copy, Debug, PartialEq, Eq)]
+#[derive(Clone, Copy)]
 pub(crate) struct InlineQos {
     /// The key hash of the instance.
     pub(crate) hash: Option<KeyHash>,
