@@ -13,7 +13,7 @@ use std::alloc::{AllocError, Global};
 const PLACES: usize = 16;
 
 /// A color and its key hash.
-#[derive(Drop)]
+#[derive(Debug, Drop)]
 pub(crate) struct ColorKey {
     pub color: Color,
     pub hash: KeyHash,
