@@ -3,8 +3,8 @@
 
     live.py PROGRAM
 
-Each run starts the program in domain 0, whose first participant has the ports 7410 and 7411, and looks at what it writes,
-what it sends back and how it ends. A run that fails names itself. The last line is 'N passed, M failed'.
+Each run starts the program in a domain, mostly in domain 0, whose first participant has the ports 7410 and 7411, and looks at
+what it writes, what it sends back and how it ends. A run that fails names itself. The last line is 'N passed, M failed'.
 """
 
 import signal
@@ -58,17 +58,20 @@ def sample_line(datagram, number):
     return f"{datagram}:1 reader 0 sample {WRITER} {number} - value 424c5545 10 20 30\n"
 
 
-def heartbeat(last):
+def heartbeat(last, count=1):
     """A datagram in which the writer says that it has the numbers from 1 to this one."""
     front = HEADER + "07011c00" + "00000107" + "00000102" + "0000000001000000" + "00000000"
-    return bytes.fromhex(front) + last.to_bytes(4, "little") + bytes.fromhex("01000000")
+    return bytes.fromhex(front) + last.to_bytes(4, "little") + count.to_bytes(4, "little")
 
 
-def asks_for(base, count):
-    """The ACKNACK in which the reader asks for as many numbers from one on, all neighbours, in hex."""
-    words = base.to_bytes(4, "little") + count.to_bytes(4, "little") + (2**32 - 2 ** (32 - count)).to_bytes(4, "little")
-    front = "5254505302050000" + B + "0e010c00" + A + "06011c00" + "00000107" + "00000102" + "00000000"
-    return front + words.hex() + "01000000"
+def asks_for(numbers, count=1):
+    """The ACKNACK in which the reader asks for these numbers, in hex: a bit for each number from the least to the greatest, the
+    first of a word at its highest place (DDSI-RTPS 9.4.2.6)."""
+    base, bits = min(numbers), max(numbers) - min(numbers) + 1
+    words = [sum(1 << (31 - at) for at in range(32) if base + first + at in numbers) for first in range(0, bits, 32)]
+    front = "5254505302050000" + B + "0e010c00" + A + "0601" + (24 + 4 * len(words)).to_bytes(2, "little").hex()
+    fields = (base, bits, *words, count)
+    return front + "00000107" + "00000102" + "00000000" + b"".join(field.to_bytes(4, "little") for field in fields).hex()
 
 
 class Unlike(Exception):
@@ -83,8 +86,8 @@ def look(name, got, wanted):
 class Running:
     """The program, while it listens. Where it is ended early it is killed."""
 
-    def __init__(self, program, *words):
-        command = [program, "listen", "--domain", "0", *words]
+    def __init__(self, program, *words, domain=0):
+        command = [program, "listen", "--domain", str(domain), *words]
         self.process = subprocess.Popen(command, stdin=subprocess.DEVNULL, stdout=subprocess.PIPE, stderr=subprocess.PIPE)
 
     def __enter__(self):
@@ -133,11 +136,13 @@ def addresses(port):
     return [address for address, at in bound if int(at, 16) == port]
 
 
-def wait_until_bound(address=HOST):
-    """Waits until the program has both of its ports, at one address alone; the one for user data is the second."""
+def wait_until_bound(address=HOST, above=0):
+    """Waits until the program has both of its ports, so far above those of domain 0, at one address alone; the one for user data
+    is the second."""
     for _ in range(SECONDS * 50):
-        if addresses(USER):
-            look("the addresses of its sockets", addresses(DISCOVERY) + addresses(USER), [in_table(address)] * 2)
+        if addresses(USER + above):
+            bound = addresses(DISCOVERY + above) + addresses(USER + above)
+            look("the addresses of its sockets", bound, [in_table(address)] * 2)
             return
         time.sleep(0.02)
     raise Unlike("the program binds no port")
@@ -184,11 +189,57 @@ def repairs_a_lost_sample(program):
         for octets in (sample(1), sample(3), heartbeat(3)):
             own.sendto(octets, (HOST, USER))
         answers = [received(own) for _ in range(40)]
-        asked = asks_for(2, 1)
+        asked = asks_for([2])
         look("what is asked for", [answer.hex() for answer in answers if answer], [asked])
         own.sendto(sample(2), (HOST, USER))
         lines = f"1:1 reader 0 matched {WRITER}\n" + sample_line(2, 1) + f"4:1 answer {HOST}:{PEER_USER} {asked}\n"
         running.ends(lines + sample_line(5, 2) + sample_line(5, 3))
+
+
+def asks_for_more_at_the_next_heartbeat(program):
+    """Two answers of different lengths: for one number, and then for that one and 37 others, which take a second word."""
+    with peer(PEER_USER) as own, Running(program, "--count", "6") as running:
+        wait_until_bound()
+        announce(own)
+        own.settimeout(SECONDS)
+        lines = f"1:1 reader 0 matched {WRITER}\n" + sample_line(2, 1)
+        for octets in (sample(1), sample(3)):
+            own.sendto(octets, (HOST, USER))
+        for datagram, count, missing in ((4, 1, [2]), (5, 2, [2, *range(4, 41)])):
+            own.sendto(heartbeat(max(3, *missing), count), (HOST, USER))
+            asked = asks_for(missing, count)
+            look("what is asked for", received(own).hex(), asked)
+            lines += f"{datagram}:1 answer {HOST}:{PEER_USER} {asked}\n"
+        running.ends(lines)
+
+
+def hears_another_domain(program):
+    """Domain 3 has ports that are 250 higher for each domain (DDSI-RTPS 9.6.2.3)."""
+    with peer() as own, Running(program, "--count", "1", "--fixed", WRITER, domain=3) as running:
+        wait_until_bound(above=750)
+        own.sendto(sample(1), (HOST, USER + 750))
+        running.ends(sample_line(0, 1))
+
+
+def receives_a_large_datagram(program):
+    """A datagram of 40,000 octets is received whole: its sample comes after a PAD."""
+    with peer() as own, Running(program, "--count", "1", "--fixed", WRITER) as running:
+        wait_until_bound()
+        front, last = sample(1)[:20], sample(1)[20:]
+        pad = 40_000 - len(front) - len(last) - 4
+        own.sendto(front + b"\x01\x01" + pad.to_bytes(2, "little") + bytes(pad) + last, (HOST, USER))
+        running.ends(sample_line(0, 1).replace("0:1", "0:2"))
+
+
+def receives_a_burst(program):
+    """200 datagrams that come at once, while the program is stopped, are all received, in order."""
+    with peer() as own, Running(program, "--count", "200", "--fixed", WRITER) as running:
+        wait_until_bound()
+        running.process.send_signal(signal.SIGSTOP)
+        for number in range(1, 201):
+            own.sendto(sample(number), (HOST, USER))
+        running.process.send_signal(signal.SIGCONT)
+        running.ends("".join(sample_line(number - 1, number) for number in range(1, 201)))
 
 
 def hears_announcements_first(program):
@@ -269,6 +320,10 @@ RUNS = (
     answers_a_peer,
     receives_at_another_address,
     repairs_a_lost_sample,
+    asks_for_more_at_the_next_heartbeat,
+    hears_another_domain,
+    receives_a_large_datagram,
+    receives_a_burst,
     hears_announcements_first,
     prints_what_comes_in_order,
     prints_at_once,
