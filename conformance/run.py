@@ -2,6 +2,7 @@
 """Runs a program on the conformance rows and compares what it writes and how it ends.
 
     run.py PROGRAM [GROUP..]
+    run.py --cases COMMAND
 
 A row is a folder GROUP/NAME: `args` has the words, one a line, as octets; `input.hex` what is on standard input, in hex,
 where `#` begins a comment; `stdout`, `stderr` and `status` what the run has to give. The word `{file}` is the name of a
@@ -13,10 +14,15 @@ some of its own. Where it has the file `output`, standard output is the file nam
 the status is 2 and the row has no `stderr`, the text of standard error is the command line's own and free. A row of `replay`
 or `samples` is run with every batch size and worker count below, which change nothing. A row that fails names itself and
 shows the first difference. The last line is 'N passed, M failed', counted by runs.
+
+With --cases, COMMAND builds a program that is not proved and runs it on each case in a folder, of which its word `{cases}` is the
+name, as `rt try --cases` does. Each row is one run, with its own words. Left out are rows that such a program can't be given:
+those with `memory`, `output` or `{file}`, with a word that is no text, or of more than 64 KiB.
 """
 
 import itertools
 import os
+import re
 import runpy
 import subprocess
 import sys
@@ -30,6 +36,8 @@ HERE = Path(__file__).resolve().parent
 BATCHES = (None, "1", "2", "4096")
 WORKERS = (None, "1", "2", "7")
 SECONDS = 120
+MOST_OF_A_CASE = 65_536
+"""Octets of input of a row that a program that is not proved, which is some 400 times slower, is run on."""
 
 
 def octets(path):
@@ -104,10 +112,44 @@ def fault_of(program, words, row):
     return None
 
 
+def write_case(row, name, folder):
+    """Puts a row into a folder as a case of this name, and returns whether it can be one."""
+    words = (row / "args").read_bytes()
+    if (row / "memory").exists() or (row / "output").exists() or b"{file}" in words or not words.isascii():
+        return False
+    data, out = given(row)
+    if len(data) > MOST_OF_A_CASE:
+        return False
+    for path, octets_of_it in ((folder / name, data), (folder / f"{name}.args", words), (folder / f"{name}.stdout", out)):
+        path.write_bytes(octets_of_it)
+    return True
+
+
+def run_cases(command):
+    """Runs a command on the rows as cases, prints what ended otherwise than its row says, and returns how many passed and failed."""
+    with tempfile.TemporaryDirectory() as folder:
+        rows = {f"{path.parent.parent.name}.{path.parent.name}": path.parent for path in sorted(HERE.glob("*/*/args"))}
+        cases = {name: row for name, row in rows.items() if write_case(row, name, Path(folder))}
+        words = [folder if word == "{cases}" else word for word in command]
+        done = subprocess.run(words, stdin=subprocess.DEVNULL, capture_output=True, text=True, errors="replace", check=False)
+    said = dict(re.findall(r"^case=(\S+) (.*)$", done.stderr, re.MULTILINE))
+    wanted = {name: f"run=ended status={int(content(row / 'status') or b'0')} " for name, row in cases.items()}
+    failed = [name for name in cases if not said.get(name, "").startswith(wanted[name]) or "output=expected" not in said[name]]
+    for name in failed:
+        print(f"{name}: {said.get(name, 'it was not run')}, wanted {wanted[name]}output=expected")
+    if failed:
+        print(f"{done.stdout[-3000:]}{done.stderr[-3000:]}")
+    return len(cases) - len(failed), len(failed)
+
+
 def main():
     if len(sys.argv) < 2:
         print(__doc__, file=sys.stderr)
         return 2
+    if sys.argv[1] == "--cases":
+        passed, failed = run_cases(sys.argv[2:])
+        print(f"{passed} passed, {failed or int(not passed)} failed")
+        return 1 if failed or not passed else 0
     program, groups = os.path.abspath(sys.argv[1]), sys.argv[2:]
     rows = sorted(path.parent for path in HERE.glob("*/*/args") if not groups or path.parent.parent.name in groups)
     runs = [(row, words) for row in rows for words in runs_of(row)]

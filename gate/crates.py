@@ -30,6 +30,11 @@ class Crate:
         return self.folder / "out"
 
     @property
+    def uses(self):
+        """The names of the libraries that it uses."""
+        return self.line.partition(":")[2].split()
+
+    @property
     def is_program(self):
         return (self.folder / "src" / "main.rt").is_file()
 

@@ -15,6 +15,8 @@ NAMES = re.compile(r"has no field|is not in scope|has no `|was not admitted|was 
 """What it says of an answer that cites what is not there."""
 LEMMA = re.compile(r"(?:\./)?proofs/\w+\.antt:\d+:\d+: error: (.*)")
 """What it says of a lemma, whose file is in no function's folder."""
+BEGINS = re.compile(r"(\./)?\S+:\d+:\d+: |(fn|rt:) |\w+=|[a-z ]+: \d")
+"""How a line of the checker's begins that says something new."""
 CANNOT_BE_READ = re.compile(r"is not in scope|has no field|is no name|operand is missing|expected the end|cannot continue")
 
 
@@ -99,6 +101,17 @@ def groups_of(edits, folder):
     return groups + alone
 
 
+def joined(lines):
+    """What the checker says, with the lines that go on with another in one."""
+    found = []
+    for line in lines:
+        if found and not BEGINS.match(line):
+            found[-1] += f" {line.strip()}"
+        else:
+            found.append(line)
+    return found
+
+
 def unreadable(edit, lines):
     """The first line that says that an edited text can't be read, where no contract was tried, if there is one."""
     changed = {file for file, _, _ in edit.pairs}
@@ -113,6 +126,7 @@ def unreadable(edit, lines):
 def judge(edit, crate, lines):
     """Why a check doesn't refuse an edit; None where it does: it says of the function that the edit names that a goal
     of its own is not proved, and not merely that an answer cites what the edit took away."""
+    lines = joined(lines)
     fault = unreadable(edit, lines)
     if fault:
         return f"BAD EDIT: the edited text can't be read, so no contract was tried: {fault[:200]}"

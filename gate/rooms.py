@@ -44,9 +44,9 @@ class Rooms:
         shutil.rmtree(folder, ignore_errors=True)
 
     @contextmanager
-    def room(self, crate, texts=None, has_tests=False):
-        """A copy of a crate, with its tests or without, with the work that it has so far and with the libraries below it,
-        some of its files with texts of their own."""
+    def room(self, crate, texts=None, has_tests=False, has_work=True):
+        """A copy of a crate, with its tests or without, some of its files with texts of their own; with the work that it has so
+        far and the libraries below it, or without any."""
         with self.locks[""]:
             self.count += 1
             at = self.folder / str(self.count)
@@ -56,7 +56,7 @@ class Rooms:
                 copied(each, at / "crates" / each.name, PARTS + BESIDE * is_last, is_last and has_tests)
                 for part in ("rlib", "incremental") if is_last else ("rlib",):
                     with self.locks[each.name]:
-                        if (each.out / part).is_dir():
+                        if has_work and (each.out / part).is_dir():
                             link_tree(each.out / part, at / "crates" / each.name / "out" / part)
             (at / "crates.txt").write_text("".join(f"{each.line}\n" for each in (*crate.below, crate)), encoding="utf-8")
             below = tuple(Crate(each.name, at / "crates" / each.name, each.line, ()) for each in crate.below)

@@ -1,20 +1,25 @@
 """What is done for each crate: its proof, its tests, its edits, and where it is a program, its runs."""
 
+import os
 import re
 import shutil
 import subprocess
+import sys
 import tempfile
 from dataclasses import dataclass
 from functools import partial
 from pathlib import Path
 
 from gate import edits as editing
+from gate import tries, verdicts
 from gate.crates import TOP, joined_sum, sources_sum, strays, sum_of, tree_sum
 from gate.rooms import BESIDE
 from gate.tasks import Done, Task, run
 
 LISTENER = "rtps_listen"
 """The program of the conformance rows, and of ./run."""
+FIRST_PROGRAM = "rtps_dump"
+"""The program of few crates, which is there first, and answers two of the commands."""
 SCRIPTS = (
     ("conformance rows", "run.py"),
     ("files by many cuts", "cuts.py"),
@@ -28,10 +33,12 @@ SCRIPTS = (
 """What is run on it: its name, and its file in conformance/."""
 TEST_SECONDS = "300"
 """How long the tests of a crate may run once they are built."""
+ROW_SECONDS = "120"
+"""How long a row may run."""
+MUST_FAIL = ("must-fail",)
+"""The folders of edits that every check tries."""
 FIRST = 1e9
 """The work of a task that nothing is to come before."""
-NOT_HERE = {"foreign", "hides", "partial", "may-abort", "may-serve", "bugs"}
-"""Words of a check's last line that no crate of this repository may have."""
 
 
 @dataclass
@@ -41,34 +48,17 @@ class Gate:
     kept: object
     handles: set
     """Words of the file HANDLES."""
-    code: str = ""
+    code: str
     """A sum of the code that judges, and of HANDLES."""
+    record: object
+    """The record that goes with the code."""
 
 
 def code_sum(top):
     """A sum of the code that judges, and of the file HANDLES."""
-    judges = [path for path in sorted((top / "gate").glob("*.py")) if path.stem not in ("tests", "tasks", "program")]
-    return sum_of([top / "check", top / "HANDLES", *judges], top)
-
-
-def beyond(text, handles):
-    """What a check's output says that no verdict may rest on, though the crate is proved."""
-    last = ([""] + re.findall(r"^logic=proved .*", text, re.MULTILINE))[-1]
-    said = dict(word.partition("=")[::2] for word in last.split())
-    takes = set(said.get("main", "").split("+")) - {""} | ({"Wait"} if "may-wait" in said else set())
-    warned = re.search(r"^rt: warning: .*", text, re.MULTILINE)
-    if warned or not last:
-        return warned[0] if warned else "the check ended without a verdict"
-    faults = [f"its last line has {word}" for word in NOT_HERE & said.keys()]
-    return ", ".join(faults + [f"it takes {word}, beyond HANDLES" for word in takes - handles])
-
-
-def unmet(text):
-    """What a check that looked for them says of contracts that no call can meet, where there are any."""
-    found = re.search(r"^empty contracts: (\d+) found; tried (\d+) of (\d+) functions$", text, re.MULTILINE)
-    if found and found[1] == "0" and found[2] == found[3]:
-        return ""
-    return found[0] if found else "the check didn't say whether each contract can be met"
+    others = ("tests", "tasks", "program", "record")
+    judges = [path for path in sorted((TOP / "gate").glob("*.py")) if path.stem not in others]
+    return joined_sum(sum_of(judges, TOP), sum_of([top / "HANDLES"], top))
 
 
 def failure(name, shows, seconds=0.0):
@@ -111,29 +101,58 @@ def layout(gate):
     return Done(1, says="every file is as rt fmt lays it out", seconds=ran.seconds)
 
 
-def prove(gate, crate, jobs, is_judged=True):
-    """Proves a crate over the work that is kept, and has rt build its library; either only where it isn't known to be done
-    with all that it hangs on as it is. What is not judged is proved by the library alone, and not recorded."""
+def prove(gate, crate, jobs):
+    """Proves a library over the work that is kept and builds it, which rt lib does in one, where it isn't known to be done with
+    all that it hangs on as it is. A program is proved by rt check, which looks for contracts that no call can meet too."""
     built = lambda: joined_sum(sources_sum(crate, gate.kept.toolchain), tree_sum(crate.out / "rlib"))
     total, library = joined_sum(gate.code, shown_total(gate, crate)), f"{crate.name}: library"
-    is_known = is_judged and gate.kept.passed(crate.name, total) > 0
-    has_library = crate.is_program or gate.kept.passed(library, built()) > 0
-    words = [["rt", "check", "--empty-contracts"]] * (is_judged and not is_known) + [["rt", "lib"]] * (not has_library)
-    seconds = 0.0
-    if words:
+    count, seconds = gate.kept.passed(crate.name, total), 0.0
+    is_known = count > 0 and (crate.is_program or gate.kept.passed(library, built()) > 0)
+    if not is_known:
+        words = ["rt", "check", "--empty-contracts"] if crate.is_program else ["rt", "lib"]
         with gate.rooms.room(crate) as inside:
-            for each in words:
-                ran = run([*each, "--jobs", str(jobs)], inside.folder)
-                seconds += ran.seconds
-                why = (beyond(ran.text, gate.handles) or unmet(ran.text)) if each[1] == "check" else ""
-                if ran.status or why:
-                    return failure(crate.name, f"{ran.text}{crate.name}: {why or 'not proved'}", seconds)
+            ran = run([*words, "--jobs", str(jobs)], inside.folder)
+            # Of a library that it finds built from the same text, rt says nothing. The look at its contracts has the verdict.
+            why = verdicts.beyond(ran.text, gate.handles) if crate.is_program or "logic=" in ran.text else ""
+            why = why or (verdicts.unmet(ran.text) if crate.is_program else "")
+            if ran.status or why:
+                return failure(crate.name, f"{ran.text}{crate.name}: {why or 'not proved'}", ran.seconds)
             gate.rooms.adopt(crate, inside)
         gate.kept.keep(crate)
-        gate.kept.note(library, built(), 1)
-    if is_judged:
-        gate.kept.note(crate.name, total, 1)
+        if not crate.is_program:
+            gate.kept.note(library, built(), 1)
+        count, seconds = verdicts.functions(ran.text), ran.seconds
+        gate.kept.note(crate.name, total, count)
+    if crate.is_program:
+        gate.record.note(crate, "proof", count, sources_sum(crate, gate.kept.toolchain))
     return Done(1, says="proved before" if is_known else "proved", seconds=seconds)
+
+
+def contracts_total(gate, crate):
+    """A sum of all that it hangs on whether each contract of a crate can be met."""
+    judge = Path(verdicts.__file__)
+    return joined_sum(sum_of([judge], judge.parent), " ".join(sorted(gate.handles)), shown_total(gate, crate))
+
+
+def meet(gate, crate, jobs):
+    """Looks for contracts of a library that no call can meet, over the work of its proof, and for words of a clause that the
+    checker warns of."""
+    name, total, seconds = f"{crate.name}: contracts", contracts_total(gate, crate), 0.0
+    before, said = gate.kept.passed(name, total), gate.record.stands(crate, "contracts", total)
+    count = before or said
+    if not count:
+        with gate.rooms.room(crate) as inside:
+            ran = run(["rt", "check", "--empty-contracts", "--jobs", str(jobs)], inside.folder)
+        why = verdicts.beyond(ran.text, gate.handles) or verdicts.unmet(ran.text)
+        if ran.status or why:
+            return failure(name, f"{ran.text}{name}: {why or 'not looked at'}", ran.seconds)
+        count, seconds = verdicts.functions(ran.text), ran.seconds
+        gate.kept.note(name, total, count)
+    is_recorded = said > 0 and not before
+    gate.record.note(crate, "contracts", count, total, taken=int(is_recorded))
+    gate.record.note(crate, "proof", count, sources_sum(crate, gate.kept.toolchain))
+    says = f"each of {count} can be met{', by the record' * is_recorded}"
+    return Done(int(not is_recorded), says=says, seconds=seconds)
 
 
 def passes(name, words, folder, pattern):
@@ -147,9 +166,17 @@ def passes(name, words, folder, pattern):
 
 def test(gate, crate):
     """Runs the tests of a crate by a build that stops at a sum that wraps, and at an index or an access out of bounds."""
-    with gate.rooms.room(crate, has_tests=True) as inside:
-        words = ["rt", "try", "--test", "--seconds", TEST_SECONDS]
-        return passes(f"{crate.name}: tests", words, inside.folder, r"^test result: ok\..*")
+    with gate.rooms.room(crate, has_tests=True, has_work=False) as inside:
+        words = ["env", f"TMPDIR={inside.folder}", *tries.try_words(inside, TEST_SECONDS, os.devnull, ["--test"])]
+        return passes(f"{crate.name}: tests", words, inside.folder, r"^test result: ok\..*(?=\n(?:.*\n)*?run=ended status=0 )")
+
+
+def rows(gate, crate):
+    """Runs the conformance rows on the program, each once, by one build that is not proved."""
+    with gate.rooms.room(crate, has_work=False) as inside:
+        words = tries.try_words(inside, ROW_SECONDS, os.devnull, ["--cases", "{cases}"])
+        words = ["env", f"TMPDIR={inside.folder}", sys.executable, str(TOP / "conformance/run.py"), "--cases", *words]
+        return passes("conformance rows by one build", words, inside.folder, r"^(\d+) passed, 0 failed\s*\Z")
 
 
 def prove_tests(gate, crate, jobs):
@@ -230,9 +257,12 @@ def try_edits(gate, crate, folders, jobs):
     check, then those that were not refused there, as one that waits for another edit's function, at last each alone."""
     judge = Path(editing.__file__)
     base = joined_sum(sum_of([judge], judge.parent), shown_total(gate, crate))
-    found, faults = read_edits(crate, folders)
-    done, checks = Done(failed=faults), 0
-    left = [edit for edit in found if not gate.kept.passed(f"{crate.name}/{edit.name}", joined_sum(base, repr(edit)))]
+    edits, faults = read_edits(crate, folders)
+    done, checks, total = Done(failed=faults), 0, joined_sum(base, *map(repr, edits))
+    left = [edit for edit in edits if not gate.kept.passed(f"{crate.name}/{edit.name}", joined_sum(base, repr(edit)))]
+    if left and gate.record.stands(crate, "edits", total) == len(edits):
+        gate.record.note(crate, "edits", len(edits), total, taken=len(left))
+        return Done(len(edits) - len(left), says=f"{len(edits)} refused, {len(left)} of them by the record")
     groups = editing.groups_of(left, crate.folder)
     while groups:
         group, checks = groups.pop(0), checks + 1
@@ -245,8 +275,10 @@ def try_edits(gate, crate, folders, jobs):
             done.failed.update({f"{crate.name}/{edit.name}": f"{crate.name}/{edit.name}: {said[edit]}" for edit in rest})
         else:
             groups += [rest] if 0 < len(rest) < len(group) else [[edit] for edit in rest]
-    done.passed = len(found) - sum(f"{crate.name}/{edit.name}" in done.failed for edit in found)
-    done.says = f"{done.passed} refused, {len(found) - len(left)} of them before; {checks} checks"
+    if not done.failed and folders == MUST_FAIL:
+        gate.record.note(crate, "edits", len(edits), total)
+    done.passed = len(edits) - sum(f"{crate.name}/{edit.name}" in done.failed for edit in edits)
+    done.says = f"{done.passed} refused, {len(edits) - len(left)} of them before; {checks} checks"
     return done
 
 
@@ -260,7 +292,12 @@ def judged(gate, crate, group, jobs):
     return {edit: editing.judge(edit, crate.name, lines) or ended for edit in group}, ran.seconds
 
 
-def edits_tasks(gate, crates, folders=("must-fail",)):
+def task(gate, name, total, call, waits=(), work=100.0, is_there=True):
+    """A task that is not done again where it passed before with all that it hangs on as it is."""
+    return Task(name, lambda jobs: once(gate, name, total, lambda: call(jobs), is_there), waits, work)
+
+
+def edits_tasks(gate, crates, folders=MUST_FAIL):
     """A task for the edits of each crate."""
     for crate in crates:
         if any((crate.folder / folder).is_dir() for folder in folders):
@@ -268,44 +305,56 @@ def edits_tasks(gate, crates, folders=("must-fail",)):
             yield Task(f"{crate.name}: edits", call, (crate.name,), crate.lines() / 2)
 
 
-def proof_tasks(gate, crates, is_judged=True):
+def proof_tasks(gate, crates):
     """A task for the proof of each crate."""
     for crate in crates:
         waits = tuple(each.name for each in crate.below)
-        yield Task(crate.name, lambda jobs, crate=crate: prove(gate, crate, jobs, is_judged), waits, crate.lines())
+        yield Task(crate.name, lambda jobs, crate=crate: prove(gate, crate, jobs), waits, crate.lines())
+
+
+def contracts_tasks(gate, crates):
+    """A task for the contracts of each library, which no crate above waits for."""
+    for crate in (crate for crate in crates if not crate.is_program):
+        call = lambda jobs, crate=crate: meet(gate, crate, jobs)
+        yield Task(f"{crate.name}: contracts", call, (crate.name,), crate.lines() / 8)
 
 
 def test_proof_tasks(gate, crates):
     """A task for the proof of each crate's tests."""
     for crate in (crate for crate in crates if crate.has_tests()):
-        name = f"{crate.name}: proof of tests"
         total = lambda it=crate: joined_sum(gate.code, shown_total(gate, it), sum_of(it.files("src"), it.folder))
-        call = lambda jobs, it=crate, name=name, total=total: once(gate, name, total, lambda: prove_tests(gate, it, jobs))
-        yield Task(name, call, (crate.name,), crate.lines() / 4)
+        call = lambda jobs, it=crate: prove_tests(gate, it, jobs)
+        yield task(gate, f"{crate.name}: proof of tests", total, call, (crate.name,), crate.lines() / 4)
 
 
-def other_tasks(gate):
-    """Tasks for the layout, the tests, the programs and their runs. What is only run waits for no proof."""
-
-    def task(name, total, call, waits=(), work=100.0, is_there=True):
-        return Task(name, lambda jobs: once(gate, name, total, lambda: call(jobs), is_there), waits, work)
-
+def test_tasks(gate, crates):
+    """Tasks for the layout of all files and for the tests of each crate, which wait for no proof."""
     yield Task("layout", lambda jobs: layout(gate), work=FIRST)
-    for crate in gate.crates:
-        if crate.has_tests():
-            total = partial(run_total, gate, crate, [crate.folder / "src"])
-            yield task(f"{crate.name}: tests", total, lambda jobs, it=crate: test(gate, it), work=crate.lines() / 10)
-        if crate.is_program:
-            total = partial(run_total, gate, crate, [crate.folder / part for part in BESIDE])
-            call = lambda jobs, it=crate: build(gate, it, jobs)
-            is_there = is_built(crate, gate.kept.toolchain)
-            yield task(f"{crate.name}: program", total, call, (crate.name,), crate.lines() / 4, is_there)
+    for crate in (crate for crate in crates if crate.has_tests()):
+        total = partial(run_total, gate, crate, [crate.folder / "src"])
+        yield task(gate, f"{crate.name}: tests", total, lambda jobs, it=crate: test(gate, it), work=crate.lines() / 10)
+
+
+def rows_tasks(gate, crates):
+    """A task for the conformance rows on a build of their program that waits for no proof."""
+    for crate in (crate for crate in crates if crate.name == LISTENER):
+        total = partial(run_total, gate, crate, [TOP / "conformance"])
+        yield task(gate, "conformance rows by one build", total, lambda jobs, it=crate: rows(gate, it), work=FIRST)
+
+
+def program_tasks(gate, crates):
+    """Tasks for the programs, and for what is run on that of the conformance rows."""
+    for crate in (crate for crate in crates if crate.is_program):
+        total = partial(run_total, gate, crate, [crate.folder / part for part in BESIDE])
+        call = lambda jobs, it=crate: build(gate, it, jobs)
+        name, is_there = f"{crate.name}: program", is_built(crate, gate.kept.toolchain)
+        yield task(gate, name, total, call, (crate.name,), crate.lines() / 4, is_there)
         if crate.name == LISTENER:
-            waits, total = (f"{crate.name}: program",), partial(run_total, gate, crate, [TOP / "conformance"])
+            total = partial(run_total, gate, crate, [TOP / "conformance"])
             prints = rf"\A{re.escape((crate.folder / 'stdout').read_text(encoding='utf-8'))}\Z"
             words = [str(TOP / "run"), "dump", str(crate.folder / "stdin")]
-            yield Task("./run", lambda jobs, words=words, prints=prints: passes("./run", words, TOP, prints), waits, 100)
-            for name, script in SCRIPTS:
+            yield Task("./run", lambda jobs, words=words, prints=prints: passes("./run", words, TOP, prints), (name,), 100)
+            for says, script in SCRIPTS:
                 words = ["python3", str(TOP / "conformance" / script), str(crate.out / crate.name)]
-                call = lambda jobs, name=name, words=words: passes(name, words, TOP, r"^(\d+) passed, 0 failed\s*\Z")
-                yield task(name, total, call, waits, FIRST)
+                call = lambda jobs, it=says, words=words: passes(it, words, TOP, r"^(\d+) passed, 0 failed\s*\Z")
+                yield task(gate, says, total, call, (name,), FIRST)

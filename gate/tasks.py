@@ -3,6 +3,7 @@
 import os
 import signal
 import subprocess
+import sys
 import threading
 import time
 import traceback
@@ -52,18 +53,35 @@ class Task:
     """How much there is to do, in any measure that all share."""
 
 
-def run(words, folder):
-    """Runs a command to its end, without input, with what it prints in one text."""
-    how = {"stdin": subprocess.DEVNULL, "stdout": subprocess.PIPE, "stderr": subprocess.STDOUT}
-    with subprocess.Popen([*getattr(THIS_TASK, "before", ()), *words], cwd=folder, **how) as started:
+def own_group():
+    """How a command is started in a process group of its own, so that all it starts can be ended with it. Where it can be, the
+    group is of the same session: of several sessions, Linux would give each an equal share of the processors."""
+    return {"process_group": 0} if sys.version_info >= (3, 11) else {"start_new_session": True}
+
+
+def run(words, folder, stdin=subprocess.DEVNULL, is_shown=False):
+    """Runs a command to its end, with all that it prints in one text, or where its output is shown as it comes, with what it writes
+    to standard error. What it started and left running is ended."""
+    streams = {"stderr": subprocess.PIPE} if is_shown else {"stdout": subprocess.PIPE, "stderr": subprocess.STDOUT}
+    how = {"cwd": folder, "stdin": stdin, **streams, **own_group()}
+    with subprocess.Popen([*getattr(THIS_TASK, "before", ()), *words], **how) as started:
         RUNNING.add(started.pid)
         try:
-            printed = started.stdout.read().decode(errors="replace")
+            printed = (started.stderr if is_shown else started.stdout).read().decode(errors="replace")
             _, status, usage = os.wait4(started.pid, 0)
             started.returncode = os.waitstatus_to_exitcode(status)
         finally:
             RUNNING.discard(started.pid)
+            end_group(started.pid, signal.SIGKILL)
     return Ran(started.returncode, printed, usage.ru_utime + usage.ru_stime)
+
+
+def end_group(pid, number):
+    """Sends a signal to the process group of a command, if any of it is left."""
+    try:
+        os.killpg(pid, number)
+    except OSError:
+        pass
 
 
 def stop_on_signals():
@@ -71,10 +89,7 @@ def stop_on_signals():
 
     def stop_all(*_):
         for pid in list(RUNNING):
-            try:
-                os.kill(pid, signal.SIGTERM)
-            except OSError:
-                pass
+            end_group(pid, signal.SIGTERM)
         os._exit(130)
 
     for each in (signal.SIGTERM, signal.SIGINT, signal.SIGHUP):
@@ -121,15 +136,13 @@ def run_all(tasks, say, count=None):
             ready = sorted((task for task in left if ended.issuperset(task.waits)), key=lambda task: -behind[task.name])
             idle = count - sum(jobs for _, jobs, _ in running.values())
             for at, task in enumerate(ready[: max(idle, 0)]):
-                # What others wait for gets a second processor, also where all are in use, and the head of the longest
-                # chain as many jobs as it can have: that chain decides how long a run takes.
+                # What others wait for gets a second processor, also where all are in use, and more where some would be idle;
+                # more jobs than that take more processor time in all. On two processors each task has one.
                 is_last = behind[task.name] == task.work
-                is_head = not is_last and behind[task.name] == max(behind[each.name] for each in left)
-                jobs = max(1 if is_last else 2, min(MOST_JOBS, idle // (len(ready) - at)))
+                jobs = max(1 if is_last or count < 3 else 2, min(MOST_JOBS, idle // (len(ready) - at)))
                 idle -= jobs
                 left.remove(task)
-                most = min(MOST_JOBS, count) if is_head else jobs
-                running[pool.submit(called, task, most, is_last)] = task, jobs, time.time()
+                running[pool.submit(called, task, jobs, is_last)] = task, jobs, time.time()
             if not running:
                 return passed, failed, [task.name for task in left]
             for future in wait(running, return_when=FIRST_COMPLETED).done:

@@ -2,16 +2,20 @@
 
 import io
 import os
+import runpy
 import shutil
+import subprocess
+import sys
 import tempfile
 import threading
 import unittest
 from pathlib import Path
 from unittest import mock
 
-from gate import edits, program, steps, tasks
+from gate import edits, program, record, steps, tasks, tries, verdicts
 from gate.crates import TOP, crates_in, shown_sum, sources_sum, strays
 from gate.kept import RECORD, Kept, default_folder
+from gate.record import Record
 from gate.rooms import Rooms, only_run
 from gate.tasks import Done, Task
 
@@ -44,6 +48,7 @@ fn low::one: not proved
 ./proofs/one/Answers.antt:3:4: error: `returns`: the two types differ
 logic=not-proved
 """.splitlines()
+MET = "empty contracts: 0 found; tried 3 of 3 functions\nlogic=proved functions=3\n"
 FIRST = edits.Edit("first", "first", (("src/lib.rt", "    one(octet)", "    octet"),))
 NEXT = edits.Edit("next", "HeaderIterator::next", (("src/lib.rt", "Some(self.0)", "None"),))
 ONE = edits.Edit("one", "one", (("src/lib.rt", "octet + STEP", "octet"),))
@@ -64,7 +69,7 @@ class Repository(unittest.TestCase):
         self.write("HANDLES", "Handles allowed: Threads, Wait, Net.\n")
         self.kept = Kept(Path(room.name) / "kept", "kit 1")
         self.low, self.high = crates_in(self.top)
-        self.gate = steps.Gate([self.low, self.high], Rooms(self.top / "rooms"), self.kept, set(), "code 1")
+        self.gate = steps.Gate([self.low, self.high], Rooms(self.top / "rooms"), self.kept, set(), "code 1", Record(self.top, ""))
 
     def write(self, name, text):
         path = self.top / name
@@ -128,13 +133,78 @@ class Repository(unittest.TestCase):
 
     def test_a_crate_that_is_known_and_built_is_neither_proved_nor_built_again(self):
         calls = []
-        text = "empty contracts: 0 found; tried 3 of 3 functions\nlogic=proved functions=3"
-        with mock.patch.object(steps, "run", lambda words, folder: calls.append(words[1]) or tasks.Ran(0, text, 1.0)):
+        with mock.patch.object(steps, "run", lambda words, folder: calls.append(words[1]) or tasks.Ran(0, MET, 1.0)):
             spoils = (lambda: None, lambda: None, lambda: self.write(f"{LIBRARY}/format", "another"),
                       lambda: self.write("crates/low/src/lib.rt", "// another"), lambda: setattr(self.gate, "code", "code 2"))
-            for spoil, done in zip(spoils, (["check", "lib"], [], ["lib"], ["check", "lib"], ["check"])):
+            for spoil, is_done in zip(spoils, (True, False, True, True, True)):
                 spoil(), calls.clear()
-                self.assertEqual(({}, done), (steps.prove(self.gate, self.low, 1).failed, calls))
+                self.assertEqual(({}, ["lib"] * is_done), (steps.prove(self.gate, self.low, 1).failed, calls))
+            calls.clear()
+            steps.prove(self.gate, self.high, 1), steps.prove(self.gate, self.high, 1)
+            self.assertEqual(["check"], calls)
+        for text, crate in (("logic=proved hides=1", self.low), ("", self.high)):
+            self.write("crates/low/src/lib.rt", "// a third")
+            self.gate.rooms.shows.clear()
+            self.write(f"{LIBRARY}/lang/lib.rt", "pub fn another() ;\n")
+            with mock.patch.object(steps, "run", lambda words, folder, text=text: tasks.Ran(0, text, 1.0)):
+                self.assertIn(crate.name, steps.prove(self.gate, crate, 1).failed)
+
+    def test_edits_and_contracts_hold_by_the_record_of_a_commit_and_by_no_other(self):
+        git = lambda *words: subprocess.run(["git", "-c", "user.name=x", "-c", "user.email=x@x", *words], cwd=self.top, check=True, capture_output=True)
+        self.write("crates/low/must-fail/one.edit", "# by: one\nfile: src/lib.rt\nold: octet + STEP\nnew: octet\n")
+        calls, said = [], tasks.Ran(1, "\n".join(LINES), 1.0)
+        runs = lambda words, folder: calls.append(words) or (tasks.Ran(0, MET, 1.0) if "--empty-contracts" in words else said)
+
+        def tried(revision, is_sampled=False, toolchain="kit 1"):
+            """How many checks were made with the record of a commit by a machine that kept nothing, and how much passed and was taken."""
+            calls.clear()
+            kept = Kept(Path(tempfile.mkdtemp(dir=self.top.parent)), toolchain)
+            gate = steps.Gate([self.low], self.gate.rooms, kept, set(), "code 1", Record(self.top, revision))
+            with mock.patch.object(record, "ONE_IN", 1 if is_sampled else 1 << 40), mock.patch.object(steps, "run", runs):
+                passed = steps.meet(gate, self.low, 1).passed + steps.try_edits(gate, self.low, steps.MUST_FAIL, 1).passed
+            gate.record.write([self.low])
+            return len(calls), passed, sum(gate.record.taken.values())
+
+        self.write("gate/other", "")
+        git("init", "-q"), git("add", "HANDLES"), git("commit", "-qm", "first")
+        self.assertEqual((2, 2, 0), tried("HEAD"))
+        # A line that isn't committed yet says nothing.
+        self.assertEqual((2, 2, 0), tried("HEAD"))
+        git("add", record.FILE), git("commit", "-qm", "second")
+        self.assertEqual([(0, 0, 2), (2, 2, 0), (2, 2, 0), (2, 2, 0), (2, 2, 0)],
+                         [tried("HEAD"), tried("HEAD~"), tried(""), tried("HEAD", is_sampled=True), tried("HEAD", toolchain="kit 2")])
+        self.write("crates/low/must-fail/one.edit", "# by: one\nfile: src/lib.rt\nold: octet + STEP\nnew: STEP\n")
+        self.assertEqual((1, 1, 1), tried("HEAD"))
+        said = tasks.Ran(0, "fn low::one: proved", 1.0)
+        self.write("crates/low/must-fail/one.edit", "# by: one\nfile: src/lib.rt\nold: octet + STEP\nnew: octet + 1\n")
+        self.assertEqual((1, 0, 1), tried("HEAD"))
+        for text, count in ((SOURCE, 1), ("// another", 0)):
+            self.write("crates/low/src/lib.rt", text)
+            self.assertIn(f"{count} of 1 crates", record.proved_before(self.top, [self.low], "kit 1"))
+
+    def test_a_try_is_called_as_rt_calls_it_or_by_rt(self):
+        words = tries.try_words(self.high, "9", "no input", ["--test"], ["a word"])
+        libraries = [word.rpartition("=")[0] for flag, word in zip(words, words[1:]) if flag == "--lib"]
+        self.assertEqual((["low:core,std,hex"], True), (libraries[:1], {"hex:std", "core:"} <= set(libraries)))
+        self.assertEqual(("--test", "src/main.rt"), tuple(words[words.index("--test") :][:2]))
+        with mock.patch.object(tries, "USAGE", "another"):
+            tries.is_known.cache_clear()
+            self.assertEqual(["rt", "try", "--seconds", "9", "--test", "--", "a word"], tries.try_words(self.high, "9", "", ["--test"], ["a word"]))
+        tries.is_known.cache_clear()
+        for text, status in (("x\nrun=ended status=3 runners=1 proved=no\n", 3), ("run=none proved=no\n", None)):
+            self.assertEqual(status, tries.ended_with(text))
+
+    def test_rows_by_one_build_are_compared_each_by_its_text_and_its_status(self):
+        with mock.patch.object(sys, "path", [str(TOP / "conformance"), *sys.path]):
+            script = runpy.run_path(str(TOP / "conformance/run.py"))
+        for name, text in (("args", "dump\n-\n"), ("input.hex", "52 # R\n"), ("stdout", "a line\n"), ("status", "3\n")):
+            self.write(f"rows/group/one/{name}", text)
+        line = "case=group.one run=ended status={} races=unchecked output={} proved=no"
+        script["run_cases"].__globals__["HERE"] = self.top / "rows"
+        for status, output, counts in ((3, "expected", (1, 0)), (0, "expected", (0, 1)), (3, "differs", (0, 1)), (33, "expected", (0, 1))):
+            says = f'[ "$(cat "$0/group.one.stdout" "$0/group.one.args")" = "$(printf "a line\ndump\n-")" ] && echo "{line.format(status, output)}" >&2'
+            with mock.patch("builtins.print"):
+                self.assertEqual(counts, script["run_cases"](["sh", "-c", says, "{cases}"]))
 
     def test_tests_are_proved_again_where_they_change(self):
         calls, says = [], lambda text: lambda words, folder: calls.append(words[4]) or tasks.Ran(0, text, 1.0)
@@ -192,6 +262,7 @@ class Repository(unittest.TestCase):
         for edit, lines, is_refused in (
             (FIRST, LINES, True), (ONE, LINES, True), (NEXT, LINES, False), (ONE, LINES[:3], False), (ONE, [], False),
             (ONE, [LINES[2], fault("one", "`returns`: `octet` is not in scope")], False),
+            (ONE, [LINES[2], fault("one", "`returns`: the record `Answers` (nearest: `one`)"), "  has no field `octet`"], False),
             (ONE, [LINES[2], fault("first", "`returns`: the two types differ")], False),
             (ONE, [waits, fault("one", "`returns`: the two types differ")], True), (ONE, [waits], False),
             (ONE, [waits.replace("not proved;", "no proof: `search` did not prove `returns`;", 1)], True),
@@ -223,12 +294,12 @@ class Repository(unittest.TestCase):
 
     def test_a_verdict_has_only_words_that_are_allowed_and_each_contract_can_be_met(self):
         for text in ("", "logic=proved hides=1", "rt: warning: a tactic\nlogic=proved functions=3", "logic=proved main=Threads"):
-            self.assertTrue(steps.beyond(text, set()))
-        self.assertFalse(steps.beyond("logic=proved may-wait=1 main=Threads", {"Threads", "Wait"}))
+            self.assertTrue(verdicts.beyond(text, set()))
+        self.assertFalse(verdicts.beyond("logic=proved may-wait=1 main=Threads", {"Threads", "Wait"}))
         for numbers in ((0, 3, 3), (1, 3, 3), (0, 2, 3)):
             text = "empty contracts: {} found; tried {} of {} functions".format(*numbers)
-            self.assertEqual(numbers == (0, 3, 3), not steps.unmet(text))
-        self.assertTrue(steps.unmet("logic=proved functions=3"))
+            self.assertEqual(numbers == (0, 3, 3), not verdicts.unmet(text))
+        self.assertTrue(verdicts.unmet("logic=proved functions=3"))
 
     def test_a_command_passes_by_its_status_and_its_line(self):
         for words, is_passed in (("echo 2 passed", True), ("echo none", False), ("sh -c 'echo 2 passed; exit 1'", False)):
@@ -252,7 +323,7 @@ class Repository(unittest.TestCase):
             said, order = [], []
             done = lambda name: order.append(name) or (steps.failure(name, "why") if fails else Done(1))
             work = mock.Mock(build=lambda gate, crate, jobs, backends: done(crate.name))
-            work.proof_tasks = lambda gate, crates, is_judged: [Task(it.name, lambda jobs, it=it: done(it.name)) for it in crates]
+            work.proof_tasks = lambda gate, crates: [Task(it.name, lambda jobs, it=it: done(it.name)) for it in crates]
             is_built = program.prove_and_build(self.top, "kit 1", self.kept.folder, said.append, work)
             self.assertEqual((not fails, ["low"] if fails else ["low", "rtps_listen"]), (is_built, order))
 
@@ -260,19 +331,27 @@ class Repository(unittest.TestCase):
         said, calls, stream = [], [], io.BytesIO(b"RDG1")
         self.write("a capture", "RDG1")
         file = str(self.top / "a capture")
-        with mock.patch.object(program.subprocess, "run", lambda *given, **how: calls.append((given, how["stdin"].read())) or mock.Mock(returncode=3)):
+        ran = lambda words, folder, stdin, is_shown: calls.append((words, stdin.read())) or tasks.Ran(0, "bad\nrun=ended status=3 proved=no\n", 1.0)
+        with mock.patch.object(tasks, "run", ran):
             self.assertEqual(3, program.answer_unproved(self.high, ["replay", file, "-"], said.append, stream))
-            self.assertEqual(b"RDG1", calls[0][1])
-            self.assertEqual(["--data", f"input0={file}", "--", "replay", "input0", "-"], calls[0][0][0][4:])
-            self.assertEqual((2, True), (len(said), all("not proved" in text for text in said)))
+            self.assertEqual((b"RDG1", "bad"), (calls[0][1], said[-1]))
+            words = " ".join(calls[0][0])
+            self.assertTrue(f"--data input0={file}" in words and "--arg replay --arg input0 --arg -" in words, words)
             self.write("a capture", "x" * (program.MOST_INPUT + 1))
             self.assertEqual(2, program.answer_unproved(self.high, ["replay", file], said.append))
-        self.assertEqual((1, True), (len(calls), "--prove" in said[-1]))
+        self.assertEqual((1, True, True), (len(calls), "not proved" in said[0], "--prove" in said[-1]))
+
+    def test_what_is_shown_first_is_by_one_build_or_by_the_program(self):
+        shown, text = [], "== 0\na line\n== 1\n== 2\nlast\ncase=0 run=ended\ncases=3\n"
+        with mock.patch.object(tasks, "run", lambda *given: tasks.Ran(0, text, 1.0)):
+            self.assertEqual(0, program.show_unproved(self.high, str, shown.append))
+        self.assertEqual([f"$ ./run {words}\n{said}" for (_, words), said in zip(program.SHOWN, ("a line\n", "", "last\n"))], shown)
+        self.assertEqual(1, program.show_proved("false", str))
 
     def test_a_file_that_is_not_laid_out_is_named(self):
         for text in ("fn main() {}\n", "fn  main( ) {}\n"):
             self.write("crates/rtps_listen/src/main.rt", text)
-            done = steps.layout(steps.Gate([self.high], None, self.kept, set()))
+            done = steps.layout(steps.Gate([self.high], None, self.kept, set(), "", None))
             self.assertEqual(text == "fn main() {}\n", "main.rt is not in the layout" not in done.failed.get("layout", ""))
         self.assertTrue(all((TOP / name).is_file() for name in ("check", "run")))
 
