@@ -7,7 +7,7 @@ from functools import cache
 from pathlib import Path
 
 TOP = Path(__file__).resolve().parent.parent
-RUN = ("example_*/src/*.rt", "thrushpodium/src/tests.rt", "*/stdout")
+RUN = ("examples/src/**/*.rt", "thrushpodium/src/tests.rt", "*/stdout")
 """Code that is run, and what programs print, below the folder of the crates."""
 ALL = (*RUN, "*/src/*.rt", "*/specs/*.antt", "*/must-fail/*.edit")
 QUOTING = {

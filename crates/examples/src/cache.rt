@@ -18,8 +18,8 @@ use std::fs::File;
 use std::thread::Threads;
 use thrushpodium::{
     Answers, Batch, BatchEnd, Condition, Config, Content, DataReader, EntityId, GuidPrefix,
-    History, NoGate, Outcome, Participant, ReaderConfig, Records, Shape, Shapes, Subscription,
-    is_batch,
+    History, NoGate, Outcome, Participant, ReaderConfig, Records, Seen, Shape, Shapes,
+    Subscription, is_batch,
 };
 
 /// Prints what is read and taken of the record file of this name.
@@ -30,22 +30,32 @@ pub fn run<R: Threads + Sync>(rt: &R, host: &HostRuntime, file: &str) -> Result<
     show_status(host, &receiver.participant)
 }
 
-/// Has the receiver take the batches of a file, and reads what is new after each of them.
 fn read_file<R: Threads + Sync>(
     rt: &R,
     host: &HostRuntime,
     receiver: &mut Receiver,
     file: &str,
 ) -> Result<()> {
-    let alloc = host.alloc();
+    let mut batch = Batch::new(host.alloc())?;
     let mut input = File::open(host, file)?;
     let mut records = Records::new(&mut input);
+    read_batches(rt, host, receiver, &mut records, &mut batch)
+}
+
+/// Has the receiver take the batches of a file, and reads what is new after each of them.
+fn read_batches<R: Threads + Sync>(
+    rt: &R,
+    host: &HostRuntime,
+    receiver: &mut Receiver,
+    records: &mut Records<'_, File>,
+    batch: &mut Batch,
+) -> Result<()> {
+    let alloc = host.alloc();
     records.open()?;
-    let mut batch = Batch::new(alloc)?;
     for _ in 0..u64::MAX {
-        let end = records.next_batch(&mut batch, 4)?;
-        receiver.receive(rt, alloc, &batch)?;
-        read_new(host, receiver)?;
+        let end = records.next_batch(batch, 4)?;
+        receiver.receive(rt, alloc, batch)?;
+        read_new(host, &mut receiver.cache)?;
         match end {
             BatchEnd::More => {}
             BatchEnd::Tick(moment) => receiver.pass(alloc, moment)?,
@@ -57,13 +67,13 @@ fn read_file<R: Threads + Sync>(
 }
 
 /// Reads what is new: it stays in the cache, and isn't new the next time.
-fn read_new(host: &HostRuntime, receiver: &mut Receiver) -> Result<()> {
+fn read_new(host: &HostRuntime, cache: &mut DataReader<Shape>) -> Result<()> {
     let alloc = host.alloc();
     let unread = Condition {
         not_read: true,
         ..Condition::default()
     };
-    let seen = receiver.cache.read(alloc, 100, unread)?;
+    let seen = cache.read(alloc, 100, unread)?;
     show_seen(host, seen)
 }
 
@@ -130,23 +140,28 @@ fn participant(alloc: Global, reader: ReaderConfig) -> Result<Participant<Shapes
     Ok(Participant::new(alloc, config, Shapes)?)
 }
 
-/// Prints entries with their states before the read: their own, that of the view, and that of the
-/// instance.
 fn show_seen(rt: &impl Print, seen: &Answers<Shape>) -> Result<()> {
     for at in 0..seen.len() {
         let Some(sample) = seen.get(at) else {
             return Ok(());
         };
-        print!(rt; "read {} {} ", sample.writer, sample.number)?;
-        match sample.body {
-            Content::Value(shape) => {
-                print!(rt; "{} at {} {}", shape.color.as_str(), shape.x, shape.y)?;
-            }
-            Content::Disposed => print!(rt; "disposed")?,
-        }
-        let (view, instance) = (sample.view, sample.instance);
-        println!(rt; ", {:?} {view:?} {instance:?}", sample.sample)?;
+        show_sample(rt, &sample)?;
     }
+    Ok(())
+}
+
+/// Prints an entry with its states before the read: its own, that of the view, and that of the
+/// instance.
+fn show_sample(rt: &impl Print, sample: &Seen<'_, Shape>) -> Result<()> {
+    print!(rt; "read {} {} ", sample.writer, sample.number)?;
+    match sample.body {
+        Content::Value(shape) => {
+            print!(rt; "{} at {} {}", shape.color.as_str(), shape.x, shape.y)?;
+        }
+        Content::Disposed => print!(rt; "disposed")?,
+    }
+    let (view, instance) = (sample.view, sample.instance);
+    println!(rt; ", {:?} {view:?} {instance:?}", sample.sample)?;
     Ok(())
 }
 

@@ -96,26 +96,37 @@ fn run_threads<R: Threads + Wait + Sync>(
 
 /// Prints the samples as they come.
 fn show_samples(host: &HostRuntime, inlet: &mut Inlet<Shape>) -> Result<()> {
-    let alloc = host.alloc();
     // Keeps three samples of each square: all that the peer sends, however late they are pulled.
-    let mut squares = DataReader::new(alloc, History::KeepLast(SAMPLES));
-    let unread = Condition {
-        not_read: true,
-        ..Condition::default()
-    };
+    let mut squares = DataReader::new(host.alloc(), History::KeepLast(SAMPLES));
     let mut shown = 0_u32;
     for _ in 0..LOOKS {
-        squares.pull(alloc, inlet)?;
-        for sample in &squares.take(alloc, 100, unread)? {
-            show_sample(host, sample)?;
-            shown = shown.saturating_add(1);
-        }
+        shown = shown.saturating_add(show_new(host, &mut squares, inlet)?);
         if shown >= SAMPLES {
             return Ok(());
         }
         pause(host);
     }
     bail!("only {shown} samples came")
+}
+
+/// Pulls what has come into the cache, and prints what is new there. Returns how many these are.
+fn show_new(
+    host: &HostRuntime,
+    squares: &mut DataReader<Shape>,
+    inlet: &mut Inlet<Shape>,
+) -> Result<u32> {
+    let alloc = host.alloc();
+    let unread = Condition {
+        not_read: true,
+        ..Condition::default()
+    };
+    squares.pull(alloc, inlet)?;
+    let mut shown = 0_u32;
+    for sample in &squares.take(alloc, 100, unread)? {
+        show_sample(host, sample)?;
+        shown = shown.saturating_add(1);
+    }
+    Ok(shown)
 }
 
 fn show_sample(rt: &impl Print, sample: &Taken<Shape>) -> Result<()> {

@@ -23,29 +23,38 @@ const USAGE: &str = "examples: start it by one of: cache FILE, own_type FILE, li
 fn main(rt: HostRuntime) -> Result<ExitCode> {
     let alloc = rt.alloc();
     let words = env::args(&rt)?.collect::<Vec<String>>(alloc)?;
-    if run(&rt, &rt, words.as_slice())? {
-        return Ok(ExitCode::SUCCESS);
-    }
-    eprintln!(rt; "{USAGE}")?;
-    Ok(ExitCode::from(2))
+    run(&rt, &rt, words.as_slice())
 }
 
-/// Runs what the words ask for, of which the first one is the program's name. Returns whether they
-/// ask for anything. The host has the files, and `rt` starts the threads and waits for them.
-fn run<R: Threads + Wait + Sync>(rt: &R, host: &HostRuntime, words: &[String]) -> Result<bool> {
+/// Runs what the words ask for, of which the first one is the program's name. The host has the
+/// files, the sockets and the clock, and `rt` starts threads and waits for them.
+fn run<R: Threads + Wait + Sync>(rt: &R, host: &HostRuntime, words: &[String]) -> Result<ExitCode> {
     let [_, word, files @ ..] = words else {
-        return Ok(false);
+        return refuse(host);
     };
     match (word.as_str(), files) {
         ("cache", [squares]) => cache::run(rt, host, squares.as_str())?,
         ("own_type", [readings]) => own_type::run(rt, host, readings.as_str())?,
         ("live", []) => live::run(rt, host)?,
-        ("all", [squares, readings]) => {
-            cache::run(rt, host, squares.as_str())?;
-            own_type::run(rt, host, readings.as_str())?;
-            live::run(rt, host)?;
-        }
-        _ => return Ok(false),
+        ("all", [squares, readings]) => run_all(rt, host, squares.as_str(), readings.as_str())?,
+        _ => return refuse(host),
     }
-    Ok(true)
+    Ok(ExitCode::SUCCESS)
+}
+
+fn run_all<R: Threads + Wait + Sync>(
+    rt: &R,
+    host: &HostRuntime,
+    squares: &str,
+    readings: &str,
+) -> Result<()> {
+    cache::run(rt, host, squares)?;
+    own_type::run(rt, host, readings)?;
+    live::run(rt, host)
+}
+
+/// Says which words there are.
+fn refuse(host: &HostRuntime) -> Result<ExitCode> {
+    eprintln!(host; "{USAGE}")?;
+    Ok(ExitCode::from(2))
 }

@@ -14,7 +14,13 @@ use thrushpodium::{Config, EntityId, GuidPrefix, ReaderConfig, check};
 
 /// Prints what the reader reports of the record file of this name.
 pub fn run<R: Threads + Sync>(rt: &R, host: &HostRuntime, file: &str) -> Result<()> {
-    let alloc = host.alloc();
+    let mut input = File::open(host, file)?;
+    let setup = setup(host.alloc())?;
+    replay(rt, host.alloc(), setup, &mut input, &mut host.stdout())?;
+    Ok(())
+}
+
+fn setup(alloc: Global) -> Result<Setup<Structs<Reading>>> {
     let config = config(alloc)?;
     check(&config)?;
     let setup = Setup {
@@ -26,9 +32,7 @@ pub fn run<R: Threads + Sync>(rt: &R, host: &HostRuntime, file: &str) -> Result<
             workers: 1,
         },
     };
-    let mut input = File::open(host, file)?;
-    replay(rt, alloc, setup, &mut input, &mut host.stdout())?;
-    Ok(())
+    Ok(setup)
 }
 
 /// A participant with one reliable reader of the topic `Readings`.

@@ -50,7 +50,7 @@
 //!     not_read: true,
 //!     ..Condition::default()
 //! };
-//! let seen = receiver.cache.read(alloc, 100, unread)?;
+//! let seen = cache.read(alloc, 100, unread)?;
 //! ```
 //!
 //! While nothing comes, [`Participant::tick`] has time pass, so that participants which keep silent
@@ -66,8 +66,8 @@
 //!
 //! **Sockets.** [`Sockets`] are those of a domain on this machine, on loopback or by a [`Binding`]
 //! at another address. Their `receive_batch` waits for datagrams and fills a [`Batch`], and
-//! `send_answer` sends an answer to a locator. `crates/example_live` is a whole program on sockets,
-//! and `crates/example_cache` one over a record file, which [`Records`] reads.
+//! `send_answer` sends an answer to a locator. The module `live` of `crates/examples` is an
+//! application on sockets, and `cache` one over a record file, which [`Records`] reads.
 #![tactic(auto)]
 
 mod subscription;
