@@ -1,5 +1,5 @@
 -- The columns of a line: each begins with a blank.
-use Rattle.std.specs.Prelude.{ℕ, ℤ, List, [], ◌∷◌, ◌++◌, Option, None, Some, codes, slice_index}
+use Rattle.std.specs.Prelude.{ℕ, ℤ, List, ◌++◌, Option, None, Some, codes, slice_index}
 use Rattle.std.specs.Fmt.{decimal, signed_decimal}
 use Rattle.std.specs.Int.{w32, to_be_bytes}
 use Rattle.rtps_types.specs.declared.identity.EntityId.{EntityId}
@@ -37,16 +37,6 @@ time_text (Some t) =
 abbrev pub hash_text : Option KeyHash → List ℕ
 hash_text None = codes "-"
 hash_text (Some h) = hex_text h.0
-
--- numbers after others, each after a comma
-abbrev pub more_text : List ℕ → List ℕ
-more_text [] = []
-more_text (n ∷ ns) = codes "," ++ (decimal n ++ more_text ns)
-
--- numbers joined by commas; a dash for none
-abbrev pub numbers_text : List ℕ → List ℕ
-numbers_text [] = codes "-"
-numbers_text (n ∷ ns) = decimal n ++ more_text ns
 
 -- the major and the minor version with a dot between
 abbrev pub version_text : List ℕ → List ℕ

@@ -10,7 +10,8 @@ use Rattle.rtps_wire.specs.Data.{DataView}
 use Rattle.rtps_wire.specs.DataFrag.{DataFragView}
 use Rattle.rtps_wire.specs.Gap.{GapFields}
 use Rattle.rtps_wire.specs.Submessage.{PartsView, Pad, Heartbeat, Gap, InfoTimestamp, InfoSource, InfoDestination, HeartbeatFrag, Data, DataFrag, Skipped}
-use Rattle.rtps_explain.specs.Columns.{ends_columns, hash_text, hex_column, number_column, numbers_text, sender_columns, signed_column, time_text, word_column}
+use Rattle.rtps_events.specs.Line.{numbers_text}
+use Rattle.rtps_explain.specs.Columns.{ends_columns, hash_text, hex_column, number_column, sender_columns, signed_column, time_text, word_column}
 
 -- the form of a payload, as a word
 abbrev pub form_word : Form → List ℕ

@@ -12,8 +12,8 @@ use crate::columns::{
     push_ends, push_hash, push_hex_column, push_number_column, push_sender, push_signed_column,
     push_time, push_word_column,
 };
-use crate::numbers::push_members;
 use rtps_ascii::push_octet;
+use rtps_events::push_members;
 use rtps_wire::{ChangeInfo, Data, DataFrag, Form, Gap, Heartbeat, HeartbeatFrag, Parts};
 use std::alloc::{AllocError, Allocator};
 

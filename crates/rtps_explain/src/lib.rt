@@ -11,7 +11,6 @@ mod flags;
 mod frame;
 mod kinds;
 mod lines;
-mod numbers;
 mod words;
 
 pub use counts::push_counts;

@@ -1,14 +1,11 @@
--- What a line has of a guid and of a locator is what is displayed of them.
-use Rattle.std.proofs.Common.{◌≡◌, ℕ, ◌<◌, ◌/◌, ◌%◌, List, [], ◌∷◌, ◌++◌, length, slice_index, codes, append_assoc, refl, sym, ap, ◌∙◌, arith}
-use Rattle.std.specs.Fmt.{decimal}
-use Rattle.std.specs.Net.Text.{ipv4_text}
+-- What a line has of a guid is what is displayed of it, and an address and its port are joined from
+-- the left or from the right.
+use Rattle.std.proofs.Common.{◌≡◌, ℕ, ◌<◌, ◌/◌, ◌%◌, List, [], ◌∷◌, ◌++◌, length, slice_index, append_assoc, refl, sym, ap, ◌∙◌, arith}
 use Rattle.hex.specs.Hex.{encode_lower, encode_with, lower_digits}
 use Rattle.rtps_types.specs.declared.identity.Guid.{Guid}
-use Rattle.rtps_types.specs.declared.locator.Locator.{Locator}
 use Rattle.rtps_types.specs.Order.{guid_octets}
 use Rattle.rtps_ascii.specs.Hex.{hex_text}
 use Rattle.rtps_lines.specs.Guid.{guid_text}
-use Rattle.rtps_lines.specs.Locators.{locator_text}
 
 -- the digits of two lists, one after the other
 encoded_both : (xs ys : List ℕ) → encode_lower (xs ++ ys) ≡ encode_lower xs ++ encode_lower ys
@@ -27,7 +24,7 @@ guid_shown g twelve four =
     (sym (encoded_both g.prefix.0 g.entity.0))
 
 -- the texts of an address and a port are joined from the left or from the right
-joined : (x y a b c d e : List ℕ)
+pub joined : (x y a b c d e : List ℕ)
     → a ++ (x ++ (b ++ (x ++ (c ++ (x ++ (d ++ (y ++ e))))))) ≡ (((((((a ++ x) ++ b) ++ x) ++ c) ++ x) ++ d) ++ y) ++ e
 joined x y a b c d e =
     sym (append_assoc a x (b ++ (x ++ (c ++ (x ++ (d ++ (y ++ e)))))))
@@ -39,7 +36,7 @@ joined x y a b c d e =
     ∙ sym (append_assoc ((((((a ++ x) ++ b) ++ x) ++ c) ++ x) ++ d) y e)
 
 -- a port after an address, from the right
-after_address : (x y a b c d e : List ℕ)
+pub after_address : (x y a b c d e : List ℕ)
     → (a ++ (x ++ (b ++ (x ++ (c ++ (x ++ d)))))) ++ (y ++ e) ≡ a ++ (x ++ (b ++ (x ++ (c ++ (x ++ (d ++ (y ++ e)))))))
 after_address x y a b c d e =
     append_assoc a (x ++ (b ++ (x ++ (c ++ (x ++ d))))) (y ++ e)
@@ -48,9 +45,3 @@ after_address x y a b c d e =
     ∙ ap (λ l. b ++ l) (append_assoc x (c ++ (x ++ d)) (y ++ e)
     ∙ ap (λ l. x ++ l) (append_assoc c (x ++ d) (y ++ e)
     ∙ ap (λ l. c ++ l) (append_assoc x d (y ++ e))))))
-
-pub locator_shown : (l : Locator) → locator_text l ≡ ipv4_text l.address ++ codes ":" ++ decimal l.port
-locator_shown l =
-    let at : ℕ → List ℕ = λ n. decimal (slice_index l.address n) in
-    after_address (codes ".") (codes ":") (at 0) (at 1) (at 2) (at 3) (decimal l.port)
-    ∙ joined (codes ".") (codes ":") (at 0) (at 1) (at 2) (at 3) (decimal l.port)

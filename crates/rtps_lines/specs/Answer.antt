@@ -4,7 +4,7 @@ use Rattle.rtps_types.specs.NumberText.{place_text}
 use Rattle.rtps_types.specs.declared.locator.Locator.{Locator}
 use Rattle.rtps_types.specs.declared.place.Place.{Place}
 use Rattle.rtps_ascii.specs.Hex.{hex_text}
-use Rattle.rtps_lines.specs.Line.{◌then◌}
+use Rattle.rtps_events.specs.Line.{◌then◌}
 use Rattle.rtps_lines.specs.Locators.{locators_text}
 
 -- an answer to the event at a place: the locators that it is sent to, and its octets

@@ -13,7 +13,7 @@ use Rattle.dds_cache.specs.declared.state.SampleState.TheVariants as sample
 use Rattle.dds_cache.specs.declared.state.ViewState.{ViewState}
 use Rattle.dds_cache.specs.declared.state.ViewState.TheVariants as view
 use Rattle.rtps_ascii.specs.Hex.{hex_text}
-use Rattle.rtps_lines.specs.Line.{◌then◌, time_text}
+use Rattle.rtps_events.specs.Line.{◌then◌, time_text}
 use Rattle.rtps_lines.specs.Guid.{guid_text}
 
 -- the words of the states (DDS 1.4, 2.2.2.5.1)

@@ -1,6 +1,4 @@
 pub mod Entry
-pub mod EventLines
-pub mod Line
 pub mod Guid
 pub mod Sample
 pub mod Notice

@@ -10,7 +10,7 @@ use Rattle.rtps_types.specs.Policy.{policy_id}
 use Rattle.rtps_reader.specs.declared.notice.Notice.{Notice}
 use Rattle.rtps_reader.specs.declared.notice.NoticeKind.{NoticeKind}
 use Rattle.rtps_reader.specs.declared.notice.NoticeKind.TheVariants.{Sample, Matched, Unmatched, Incompatible, Lost}
-use Rattle.rtps_lines.specs.Line.{◌then◌, time_text}
+use Rattle.rtps_events.specs.Line.{◌then◌, time_text}
 use Rattle.rtps_lines.specs.Guid.{guid_text}
 use Rattle.rtps_lines.specs.Sample.{sample_text}
 

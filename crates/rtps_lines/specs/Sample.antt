@@ -5,7 +5,7 @@ use Rattle.dds_topic.specs.Answer.{code_of}
 use Rattle.rtps_reader.specs.declared.body.Body.{Body}
 use Rattle.rtps_reader.specs.declared.body.Body.TheVariants as body
 use Rattle.rtps_ascii.specs.Hex.{hex_text}
-use Rattle.rtps_lines.specs.Line.{◌then◌}
+use Rattle.rtps_events.specs.Line.{◌then◌}
 
 -- the body of a presented change (DDS 1.4, 2.2.2.5.1.3): a value, the end of an instance with the
 -- hash of its key, or why the payload is unread

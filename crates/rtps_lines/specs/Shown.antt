@@ -8,7 +8,7 @@ use Rattle.rtps_types.specs.declared.locator.Locator.{Locator}
 use Rattle.rtps_types.specs.declared.time.Timestamp.{Timestamp}
 use Rattle.rtps_types.specs.Order.{guid_octets}
 use Rattle.rtps_types.specs.TimeText.{moment_text}
-use Rattle.rtps_lines.specs.Line.{time_text}
+use Rattle.rtps_events.specs.Line.{time_text}
 use Rattle.rtps_lines.specs.Guid.{guid_text}
 use Rattle.rtps_lines.specs.Locators.{locator_text}
 

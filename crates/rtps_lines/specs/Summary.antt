@@ -5,7 +5,7 @@ use Rattle.rtps_types.specs.declared.identity.Guid.{Guid}
 use Rattle.rtps_types.specs.declared.policy.PolicyId.{PolicyId}
 use Rattle.rtps_reader.specs.declared.status.Status.{Status}
 use Rattle.rtps_types.specs.Policy.{policy_id}
-use Rattle.rtps_lines.specs.Line.{◌then◌}
+use Rattle.rtps_events.specs.Line.{◌then◌}
 use Rattle.rtps_lines.specs.Guid.{guid_text}
 
 -- a match between the reader of a rank and a writer

@@ -4,9 +4,9 @@ ghost use Rattle.std.specs.Prelude.{◌≡◌, ◌++◌, OnOk};
 ghost use Rattle.std.specs.Io.{StartsWith};
 ghost use Rattle.rtps_lines.specs.Answer.{answer_line};
 
-use crate::context::push_place;
 use crate::locators::push_locators;
 use rtps_ascii::{push_hex, push_octet, push_word};
+use rtps_events::push_place;
 use rtps_types::{Locator, Place};
 use std::alloc::{AllocError, Allocator};
 

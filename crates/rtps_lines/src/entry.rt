@@ -2,7 +2,7 @@
 
 ghost use Rattle.std.specs.Prelude.{◌≡◌, ◌++◌, OnOk};
 ghost use Rattle.std.specs.Io.{StartsWith};
-ghost use Rattle.rtps_lines.specs.Line.{◌then◌};
+ghost use Rattle.rtps_events.specs.Line.{◌then◌};
 ghost use Rattle.rtps_lines.specs.Entry.{change_text, content_text, content_view, entry_line, instance_word, sample_view, sample_word, states_text, view_word};
 
 use crate::notice::push_change;

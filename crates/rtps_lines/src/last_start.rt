@@ -5,8 +5,8 @@ ghost use Rattle.std.specs.Io.{StartsWith};
 ghost use Rattle.std.specs.Option.{ForSome};
 ghost use Rattle.rtps_lines.specs.Notice.{start_text};
 
-use crate::context::push_place;
 use rtps_ascii::push_word;
+use rtps_events::push_place;
 use rtps_types::Place;
 use std::alloc::{AllocError, Allocator};
 

@@ -6,7 +6,7 @@ ghost use Rattle.std.specs.Fmt.{decimal};
 ghost use Rattle.dds_topic.specs.Answer.{code_of};
 ghost use Rattle.rtps_reader.specs.Body.{body_map};
 ghost use Rattle.rtps_ascii.specs.Hex.{hex_text};
-ghost use Rattle.rtps_lines.specs.Line.{◌then◌};
+ghost use Rattle.rtps_events.specs.Line.{◌then◌};
 ghost use Rattle.rtps_lines.specs.Sample.{sample_text};
 
 use dds_topic::{TextCatalog, Unread};

@@ -9,7 +9,7 @@ use Rattle.rtps_records.specs.Runs.{Stops, WroteAll}
 use Rattle.rtps_records.specs.Text.{text_of}
 use Rattle.rtps_records.specs.declared.fault.RunFault.{RunFault}
 use Rattle.rtps_records.specs.declared.fault.RunFault.TheVariants.{CannotRead, NotRecordFile, CutRecord, RecordTooLong, TooManyRecords, CannotWrite, NoMemory}
-use Rattle.rtps_lines.specs.EventLines.{lines_of}
+use Rattle.rtps_events.specs.EventLines.{lines_of}
 use Rattle.rtps_explain.specs.Explained.{explained_text}
 use Rattle.rtps_text.specs.Caches.{StopsLate}
 use Rattle.rtps_records.specs.Traffic.{Traffic}

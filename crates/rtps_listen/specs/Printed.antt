@@ -11,7 +11,7 @@ use Rattle.rtps_records.specs.RecordFile.{Record}
 use Rattle.rtps_records.specs.Runs.{WroteAll}
 use Rattle.rtps_records.specs.Text.{text_of}
 use Rattle.rtps_records.specs.declared.fault.RunFault.TheVariants.{CannotRead, NoMemory}
-use Rattle.rtps_lines.specs.EventLines.{lines_of}
+use Rattle.rtps_events.specs.EventLines.{lines_of}
 use Rattle.rtps_explain.specs.Explained.{explained_text}
 use Rattle.rtps_text.specs.Entries.{samples_text}
 use Rattle.rtps_text.specs.Replayed.{replay_text}

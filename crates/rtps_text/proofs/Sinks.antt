@@ -18,7 +18,7 @@ use Rattle.dds_topic.specs.Decoding.{Decoding}
 use Rattle.rtps_discovery.specs.declared.config.Config.{Config}
 use Rattle.rtps_text.specs.Inputs.{run_by}
 use Rattle.dds_participant.specs.Ports.{NoneAttached}
-use Rattle.rtps_lines.specs.EventLines.{lines_of}
+use Rattle.rtps_events.specs.EventLines.{lines_of}
 use Rattle.rtps_text.specs.Batched.{IsDue, IsSameRun, MovesBefore, TakesRecords}
 use Rattle.rtps_text.specs.Caches.{AreKept, StopsLate}
 use Rattle.rtps_text.specs.Entries.{samples_by}

@@ -6,7 +6,7 @@ use Rattle.std.specs.declared.vec.Vec.{Vec}
 use Rattle.rtps_records.specs.Text.{datagrams_of, text_of}
 use Rattle.dds_topic.specs.Decoding.{Decoding}
 use Rattle.dds_participant.specs.Ports.{NoneAttached}
-use Rattle.rtps_lines.specs.EventLines.{lines_of}
+use Rattle.rtps_events.specs.EventLines.{lines_of}
 use Rattle.rtps_text.specs.Batched.{IsDue}
 use Rattle.rtps_text.specs.Caches.{AreKept}
 use Rattle.rtps_text.specs.Entries.{samples_by}

@@ -5,14 +5,14 @@ ghost use Rattle.rtps_records.specs.Batches.{record_of, records_in};
 ghost use Rattle.rtps_records.specs.Runs.{Moves, PutsFront, Stops, WroteAll};
 ghost use Rattle.rtps_records.specs.Text.{datagrams_of, text_from, text_of};
 ghost use Rattle.rtps_records.specs.declared.fault.RunFault.TheVariants.{CannotWrite, NoMemory};
-ghost use Rattle.rtps_lines.specs.EventLines.{lines_of};
+ghost use Rattle.rtps_events.specs.EventLines.{lines_of};
 
 use crate::file_run::run_file;
 use crate::pipeline::Pipeline;
 use crate::setup::Pace;
 use crate::sink::Sink;
 use dds_topic::Raw;
-use rtps_lines::push_events;
+use rtps_events::push_events;
 use rtps_records::{Batch, Lines, RunFault};
 use rtps_types::{Datagram, GuidPrefix};
 use std::alloc::Global;

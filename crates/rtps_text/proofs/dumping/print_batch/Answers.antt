@@ -1,7 +1,7 @@
 use Rattle.std.proofs.Common.{◌++◌, ◌∙◌, OnErr, OnOk, ap, map, subst}
 use Rattle.rtps_records.specs.Batches.{record_of}
 use Rattle.rtps_records.specs.Runs.{Moves, PutsFront}
-use Rattle.rtps_lines.specs.EventLines.{lines_of}
+use Rattle.rtps_events.specs.EventLines.{lines_of}
 use Rattle.rtps_text.proofs.Held.{batch_fewer, batch_text, next_after}
 use Rattle.rtps_text.proofs.dumping.print_batch.Goals as goal
 

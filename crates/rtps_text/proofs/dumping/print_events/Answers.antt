@@ -1,5 +1,5 @@
 use Rattle.std.proofs.Common.{[], arith, rules, subst}
-use Rattle.rtps_lines.specs.EventLines.{lines_of}
+use Rattle.rtps_events.specs.EventLines.{lines_of}
 use Rattle.rtps_text.proofs.Run.{Printed, on_err, printed_front, printed_more, printed_spilled, printed_stop}
 use Rattle.rtps_text.proofs.Sinks.{record_more}
 use Rattle.rtps_text.proofs.dumping.print_events.Goals as goal

@@ -1,7 +1,7 @@
 use Rattle.std.proofs.Common.{◌≡◌, ◌+◌, ◌++◌, drop, map}
 use Rattle.rtps_records.specs.Batches.{record_of}
 use Rattle.rtps_records.specs.Text.{text_from}
-use Rattle.rtps_lines.specs.EventLines.{lines_of}
+use Rattle.rtps_events.specs.EventLines.{lines_of}
 use Rattle.rtps_text.proofs.Run.{Printed}
 use Rattle.rtps_text.proofs.dumping.print_events.Given as goal
 

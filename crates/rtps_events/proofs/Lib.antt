@@ -1,0 +1,5 @@
+pub mod Batches
+pub mod Printed
+pub mod Rewritten
+pub mod Rows
+pub mod Run

@@ -1,4 +1,0 @@
-pub mod Batches
-pub mod Printed
-pub mod Rows
-pub mod Run
