@@ -2,15 +2,12 @@
 use Rattle.std.proofs.Common.{◌≡◌, List, ℕ, Bool, true, false, inl, inr, subst, sym, Option, None, Result, Ok, Err, IfErr, refl}
 use Rattle.std.specs.Prelude.{IsErrAnd}
 use Rattle.std.proofs.KnownBytes.{Keeps-refl}
-use Rattle.rtps_types.specs.declared.identity.GuidPrefix.{GuidPrefix}
 use Rattle.rtps_discovery.specs.declared.config.Config.{Config}
 use Rattle.rtps_records.specs.RecordFile.{Record}
 use Rattle.rtps_records.specs.Runs.{Stops, WroteAll}
-use Rattle.rtps_records.specs.Text.{text_of}
 use Rattle.rtps_records.specs.declared.fault.RunFault.{RunFault}
 use Rattle.rtps_records.specs.declared.fault.RunFault.TheVariants.{CannotRead, NotRecordFile, CutRecord, RecordTooLong, TooManyRecords, CannotWrite, NoMemory}
-use Rattle.rtps_events.specs.EventLines.{lines_of}
-use Rattle.rtps_explain.specs.Explained.{explained_text}
+use Rattle.rtps_files.specs.Printed.{IsUnopened}
 use Rattle.rtps_text.specs.Caches.{StopsLate}
 use Rattle.rtps_records.specs.Traffic.{Traffic}
 use Rattle.rtps_text.specs.Listened.{Limits, Listened, LiveRun, limits_of}
@@ -24,14 +21,13 @@ use Rattle.rtps_listen.specs.Addresses.{IsJoinCause}
 use Rattle.rtps_listen.specs.Configs.{IsCause, IsConfigOf}
 use Rattle.rtps_udp.specs.declared.binding.Binding.{Binding}
 use Rattle.rtps_listen.specs.Domain.{Hears, IsBefore, Joins, ListensBy, live_run_of}
-use Rattle.rtps_listen.specs.Identities.{WritesPrefix}
-use Rattle.rtps_listen.specs.Printed.{EndsBy, IsFirst, IsUnopened, Prints, Writes, kept_text, run_text}
+use Rattle.rtps_listen.specs.Printed.{EndsBy, IsFirst, Prints, Writes, kept_text, run_text}
 use Rattle.rtps_listen.specs.Setup.{IsCacheSetupOf, IsLiveSetupOf, IsSetupOf, history_of}
 use Rattle.rtps_listen.specs.Status.{live_fault_of}
 use Rattle.rtps_listen.specs.declared.fault.ListenFault.{ListenFault}
 use Rattle.rtps_listen.specs.declared.fault.ListenFault.TheVariants.{NoText, BadPrefix, BadWriter, BadAddress, Socket, Run}
 use Rattle.rtps_listen.specs.declared.options.Options.{Options}
-use Rattle.rtps_listen.specs.declared.request.Request.TheVariants.{Dump, Explain, Replay, Samples}
+use Rattle.rtps_listen.specs.declared.request.Request.TheVariants.{Replay, Samples}
 use Rattle.rtps_listen.proofs.Refused.{IsLive, IsRun}
 
 -- what is wrong with options is found before a domain is joined
@@ -62,32 +58,14 @@ pub cause_first : (o : Options) (fault : ListenFault) → IsCause o fault → Is
 cause_first o fault h = before_first fault (cause_before o fault h)
 
 -- so is a file that can't be opened
-pub unopened_first : (fault : ListenFault) → IsUnopened fault → IsFirst fault
-unopened_first (Run CannotRead) h = tt
-unopened_first (Run NoMemory) h = tt
-unopened_first (Run NotRecordFile) h = absurd h
-unopened_first (Run (CutRecord n)) h = absurd h
-unopened_first (Run (RecordTooLong n)) h = absurd h
-unopened_first (Run TooManyRecords) h = absurd h
-unopened_first (Run CannotWrite) h = absurd h
-unopened_first NoText h = absurd h
-unopened_first BadPrefix h = absurd h
-unopened_first BadWriter h = absurd h
-unopened_first BadAddress h = absurd h
-unopened_first Socket h = absurd h
-
--- it is a fault of the run
-pub unopened_run : (s : Result (Unit {0}) ListenFault) (fault : ListenFault) → IsErrAnd s (λ e. e ≡ fault) → IsUnopened fault → IfErr s IsRun
-unopened_run (Ok u) fault is h = absurd is
-unopened_run (Err e) fault is h = rw is (go fault h)
-  where
-    go : (fault : ListenFault) → IsUnopened fault → IsRun fault
-    go (Run fault) h = tt
-    go NoText h = absurd h
-    go BadPrefix h = absurd h
-    go BadWriter h = absurd h
-    go BadAddress h = absurd h
-    go Socket h = absurd h
+pub unopened_first : (fault : RunFault) → IsUnopened fault → IsFirst (Run fault)
+unopened_first CannotRead h = tt
+unopened_first NoMemory h = tt
+unopened_first NotRecordFile h = absurd h
+unopened_first (CutRecord n) h = absurd h
+unopened_first (RecordTooLong n) h = absurd h
+unopened_first TooManyRecords h = absurd h
+unopened_first CannotWrite h = absurd h
 
 -- a fault of the run, as it is passed on
 pub run_fault : (s : Result (Unit {0}) ListenFault) (fault : RunFault) → IsErrAnd s (λ e. e ≡ Run fault) → IfErr s IsRun
@@ -104,16 +82,6 @@ ends : (P : ListenFault → Type 0) (old : Option (List ℕ)) (s : Result (Unit 
     → IsErrAnd s (λ e. e ≡ fault) → P fault → EndsBy P old old s
 ends P old (Ok u) fault is h = absurd is
 ends P old (Err other) fault is h = (refl, rw is h, Keeps-refl old)
-
-pub dumps_none : (o : Options) (holds : List ℕ → Option (List ℕ)) (old : Option (List ℕ)) (s : Result (Unit {0}) ListenFault) (fault : ListenFault)
-    → IsErrAnd s (λ e. e ≡ fault) → IsFirst fault → Prints (Dump o) holds old old s
-unfolding Prints
-dumps_none o holds old s fault is h = inl (ends IsFirst old s fault is h)
-
-pub explains_none : (o : Options) (holds : List ℕ → Option (List ℕ)) (old : Option (List ℕ)) (s : Result (Unit {0}) ListenFault) (fault : ListenFault)
-    → IsErrAnd s (λ e. e ≡ fault) → IsFirst fault → Prints (Explain o) holds old old s
-unfolding Prints
-explains_none o holds old s fault is h = inl (ends IsFirst old s fault is h)
 
 pub replays_none : (o : Options) (holds : List ℕ → Option (List ℕ)) (old : Option (List ℕ)) (s : Result (Unit {0}) ListenFault) (fault : ListenFault)
     → IsErrAnd s (λ e. e ≡ fault) → IsFirst fault → Prints (Replay o) holds old old s
@@ -150,16 +118,6 @@ writes_late_front text file all after old new (Ok u) fault e is h = absurd is
 writes_late_front text file all after old new (Err other) fault e is h = rw is (after, subst (λ f. StopsLate text fault f after old new) e h)
 
 -- that is what is printed
-pub dumps : (o : Options) (own : GuidPrefix) (holds : List ℕ → Option (List ℕ)) (old new : Option (List ℕ)) (s : Result (Unit {0}) ListenFault)
-    → WritesPrefix o.own.now own → Writes false (text_of (lines_of own)) (holds o.file.now) old new s → Prints (Dump o) holds old new s
-unfolding Prints
-dumps o own holds old new s is w = inr (own, is, w)
-
-pub explains : (o : Options) (own : GuidPrefix) (holds : List ℕ → Option (List ℕ)) (old new : Option (List ℕ)) (s : Result (Unit {0}) ListenFault)
-    → WritesPrefix o.own.now own → Writes false (explained_text own) (holds o.file.now) old new s → Prints (Explain o) holds old new s
-unfolding Prints
-explains o own holds old new s is w = inr (own, is, w)
-
 pub replays : {C : Type 0} (o : Options) (config : Config) (catalog : C) (setup : Setup C) (raw : Bool) (holds : List ℕ → Option (List ℕ)) (old new : Option (List ℕ))
     (s : Result (Unit {0}) ListenFault) → IsConfigOf o config → o.raw ≡ raw → IsSetupOf o config catalog setup
     → Writes false (run_text raw setup.config setup.summary) (holds o.file.now) old new s → Prints (Replay o) holds old new s

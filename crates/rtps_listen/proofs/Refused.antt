@@ -4,12 +4,11 @@ use Rattle.std.specs.Prelude.{IsErrAnd}
 use Rattle.rtps_records.specs.declared.fault.RunFault.TheVariants.{NoMemory}
 use Rattle.rtps_listen.specs.Addresses.{IsAddressText, IsJoinCause, IsLiveCause}
 use Rattle.rtps_listen.specs.Configs.{IsCause, IsReplayCause, Refuses}
-use Rattle.rtps_listen.specs.Identities.{IsPrefixText}
-use Rattle.rtps_listen.specs.Request.{IsDumpCause, RefusesFirst}
+use Rattle.rtps_listen.specs.Request.{RefusesFirst}
 use Rattle.rtps_listen.specs.declared.fault.ListenFault.{ListenFault}
 use Rattle.rtps_listen.specs.declared.fault.ListenFault.TheVariants.{NoText, BadPrefix, BadWriter, BadAddress, Socket, Run}
 use Rattle.rtps_listen.specs.declared.options.Options.{Options}
-use Rattle.rtps_listen.specs.declared.request.Request.TheVariants.{Dump, Explain, Listen, Replay, Samples}
+use Rattle.rtps_listen.specs.declared.request.Request.TheVariants.{Listen, Replay, Samples}
 
 -- a fault of the run
 abbrev pub IsRun : ListenFault → Type 0
@@ -84,15 +83,6 @@ heard_cause o (Err BadPrefix) k = absurd k
 heard_cause o (Err BadWriter) k = absurd k
 heard_cause o (Err BadAddress) k = absurd k
 
-dumped_cause : (own : List ℕ) (s : Result (Unit {0}) ListenFault) → IfErr s IsRun → IfErr s (IsDumpCause own)
-dumped_cause own (Ok u) k = tt
-dumped_cause own (Err (Run fault)) k = tt
-dumped_cause own (Err NoText) k = absurd k
-dumped_cause own (Err Socket) k = absurd k
-dumped_cause own (Err BadPrefix) k = absurd k
-dumped_cause own (Err BadWriter) k = absurd k
-dumped_cause own (Err BadAddress) k = absurd k
-
 passed : (P Q : ListenFault → Type 0) (s : Result (Unit {0}) ListenFault) (fault : ListenFault) → s ≡ Err fault → P fault → ((e : ListenFault) → P e → Q e) → IfErr s Q
 passed P Q s fault e p to = rw e (to fault p)
 
@@ -124,24 +114,7 @@ listen_refused o r s fault e is h cause = (
   passed (IsCause o) _ s fault (is_err s fault is) cause (live_cause o),
 )
 
--- a prefix that is none
-pub dump_refused : (o : Options) → ¬ IsPrefixText o.own.now → RefusesFirst (Dump o) (Err BadPrefix)
-unfolding RefusesFirst
-dump_refused o bad = (λ _. refl, bad)
-
-pub explain_refused : (o : Options) → ¬ IsPrefixText o.own.now → RefusesFirst (Explain o) (Err BadPrefix)
-unfolding RefusesFirst
-explain_refused o bad = (λ _. refl, bad)
-
 -- where nothing is refused, the run alone can fail
-pub dump_runs : (o : Options) (s : Result (Unit {0}) ListenFault) → IsPrefixText o.own.now → IfErr s IsRun → RefusesFirst (Dump o) s
-unfolding RefusesFirst
-dump_runs o s good k = (λ bad. absurd (bad good), dumped_cause o.own.now s k)
-
-pub explain_runs : (o : Options) (s : Result (Unit {0}) ListenFault) → IsPrefixText o.own.now → IfErr s IsRun → RefusesFirst (Explain o) s
-unfolding RefusesFirst
-explain_runs o s good k = (λ bad. absurd (bad good), dumped_cause o.own.now s k)
-
 pub replay_runs : {T : Type 0} (o : Options) (t : T) (s : Result (Unit {0}) ListenFault) → Refuses {T = T} o (Ok t) → IfErr s IsRun → RefusesFirst (Replay o) s
 unfolding RefusesFirst
 replay_runs o t s h k = (refuses_none o t s h, run_cause o s k)

@@ -5,7 +5,7 @@ use Rattle.clap.specs.Words.{Text}
 use Rattle.rtps_types.specs.declared.identity.Guid.{Guid}
 use Rattle.rtps_types.specs.declared.identity.GuidPrefix.{GuidPrefix}
 use Rattle.rtps_listen.specs.Configs.{NamesWriter}
-use Rattle.rtps_listen.specs.Identities.{WritesPrefix}
+use Rattle.rtps_files.specs.Prefixes.{WritesPrefix}
 
 same_ok : {T E : Type 0} (r : Result T E) (a b : T) → r ≡ Ok a → r ≡ Ok b → a ≡ b
 same_ok (Ok x) a b p q = cc

@@ -16,7 +16,8 @@ use Rattle.rtps_discovery.specs.declared.config.FixedMatch.{FixedMatch}
 use Rattle.rtps_discovery.specs.Known.{Wish}
 use Rattle.rtps_discovery.specs.Start.{wish_of}
 use Rattle.rtps_records.specs.declared.fault.RunFault.TheVariants.{NoMemory}
-use Rattle.rtps_listen.specs.Identities.{IsGuidText, IsPrefixText, WritesGuid, WritesPrefix}
+use Rattle.rtps_files.specs.Prefixes.{IsPrefixText, WritesPrefix}
+use Rattle.rtps_listen.specs.Identities.{IsGuidText, WritesGuid}
 use Rattle.rtps_listen.specs.declared.options.Options.{Options}
 use Rattle.rtps_listen.specs.declared.fault.ListenFault.{ListenFault}
 use Rattle.rtps_listen.specs.declared.fault.ListenFault.TheVariants.{BadPrefix, BadWriter, Run}

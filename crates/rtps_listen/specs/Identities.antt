@@ -1,22 +1,13 @@
--- Participants and writers as the command line writes them: their octets (DDSI-RTPS 9.3.1) in hex
--- digits of either case.
+-- Writers as the command line writes them: their octets (DDSI-RTPS 9.3.1) in hex digits of either
+-- case.
 use Rattle.std.specs.Prelude.{◌≡◌, IsOk, Ok}
 use Rattle.clap.specs.Words.{Text}
-use Rattle.rtps_types.specs.Text.{guid_in, prefix_in}
+use Rattle.rtps_types.specs.Text.{guid_in}
 use Rattle.rtps_types.specs.declared.identity.Guid.{Guid}
-use Rattle.rtps_types.specs.declared.identity.GuidPrefix.{GuidPrefix}
-
--- the text is one of a participant: 24 digits
-abbrev pub IsPrefixText : Text → Type 0
-IsPrefixText text = IsOk (prefix_in text)
 
 -- the text is one of an endpoint: 32 digits
 abbrev pub IsGuidText : Text → Type 0
 IsGuidText text = IsOk (guid_in text)
-
--- the text writes this participant
-abbrev pub WritesPrefix : Text → GuidPrefix → Type 0
-WritesPrefix text prefix = prefix_in text ≡ Ok prefix
 
 -- the text writes this endpoint
 abbrev pub WritesGuid : Text → Guid → Type 0

@@ -13,11 +13,11 @@ use Rattle.rtps_records.specs.Text.{text_of}
 use Rattle.rtps_records.specs.declared.fault.RunFault.TheVariants.{CannotRead, NoMemory}
 use Rattle.rtps_events.specs.EventLines.{lines_of}
 use Rattle.rtps_explain.specs.Explained.{explained_text}
+use Rattle.rtps_files.specs.Prefixes.{WritesPrefix}
 use Rattle.rtps_text.specs.Entries.{samples_text}
 use Rattle.rtps_text.specs.Replayed.{replay_text}
 use Rattle.rtps_text.specs.Taken.{StopsBy}
 use Rattle.rtps_listen.specs.Configs.{IsConfigOf}
-use Rattle.rtps_listen.specs.Identities.{WritesPrefix}
 use Rattle.rtps_listen.specs.Setup.{history_of}
 use Rattle.rtps_listen.specs.declared.fault.ListenFault.{ListenFault}
 use Rattle.rtps_listen.specs.declared.fault.ListenFault.TheVariants.{Run}
@@ -44,12 +44,6 @@ Writes late text file old new (Ok u) = WroteAll text file old new None
 Writes late text file old new (Err (Run fault)) =
     (after : Option (List ℕ)) × StopsBy late text fault file after old new
 Writes late text file old new (Err fault) = ⊥
-
--- a fault of a file that isn't opened
-abbrev pub IsUnopened : ListenFault → Type 0
-IsUnopened (Run CannotRead) = Unit {0}
-IsUnopened (Run NoMemory) = Unit {0}
-IsUnopened fault = ⊥
 
 -- a fault that is found before a file is read
 abbrev pub IsFirst : ListenFault → Type 0

@@ -2,13 +2,13 @@
 -- and what of it is refused.
 use Rattle.std.specs.Prelude.{◌≡◌, List, [], Option, Some, None, codes, Result, Err, IfErr}
 use Rattle.clap.specs.Words.{Row, Text}
+use Rattle.rtps_files.specs.Prefixes.{IsPrefixText}
 use Rattle.rtps_listen.specs.declared.request.Request.{Request}
 use Rattle.rtps_listen.specs.declared.request.Request.TheVariants.{Dump, Explain, Listen, Replay, Samples}
 use Rattle.rtps_listen.specs.declared.fault.ListenFault.{ListenFault}
 use Rattle.rtps_listen.specs.declared.fault.ListenFault.TheVariants.{BadPrefix, Run}
 use Rattle.rtps_listen.specs.Addresses.{IsLiveCause, RefusesAddress}
 use Rattle.rtps_listen.specs.Configs.{IsReplayCause, Refuses}
-use Rattle.rtps_listen.specs.Identities.{IsPrefixText}
 use Rattle.rtps_listen.specs.Options.{AreOptions}
 
 -- no words are `dump -`

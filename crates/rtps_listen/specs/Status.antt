@@ -1,7 +1,9 @@
 -- The exit statuses of the program, and the lines that it ends with.
-use Rattle.std.specs.Prelude.{ℕ, List, ◌++◌, codes}
+use Rattle.std.specs.Prelude.{ℕ, List, ◌++◌, Result, Ok, Err, codes}
 use Rattle.rtps_records.specs.Faults as records
 use Rattle.rtps_records.specs.declared.fault.RunFault.TheVariants.{CannotRead, NotRecordFile, CutRecord, RecordTooLong, TooManyRecords, CannotWrite, NoMemory}
+use Rattle.rtps_files.specs.declared.fault.FileFault.{FileFault}
+use Rattle.rtps_files.specs.declared.fault.FileFault.TheVariants as file_fault
 use Rattle.rtps_text.specs.declared.live_fault.LiveFault.{LiveFault}
 use Rattle.rtps_text.specs.declared.live_fault.LiveFault.TheVariants as live_fault
 use Rattle.rtps_listen.specs.declared.program.Failure.{Failure}
@@ -13,6 +15,12 @@ use Rattle.rtps_listen.specs.declared.fault.ListenFault.TheVariants.{NoText, Bad
 abbrev pub live_fault_of : LiveFault → ListenFault
 live_fault_of live_fault.Socket = Socket
 live_fault_of (live_fault.Run fault) = Run fault
+
+-- how the printing of a file ended, as the program passes it on
+abbrev pub passed : Result (Unit {0}) FileFault → Result (Unit {0}) ListenFault
+passed (Ok u) = Ok u
+passed (Err file_fault.BadPrefix) = Err BadPrefix
+passed (Err (file_fault.Run fault)) = Err (Run fault)
 
 -- 2 for the line, 3 for a file and its text, 4 for sockets, 5 for memory
 abbrev pub status_of : ListenFault → ℕ

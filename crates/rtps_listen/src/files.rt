@@ -1,9 +1,9 @@
 //! What is printed of the record files that words name.
 
-ghost use Rattle.std.specs.Prelude.{◌≡◌, ℕ, IfErr, IfOk, List, Option};
-ghost use Rattle.std.specs.Io.Buffered.{reader_remaining};
-ghost use Rattle.rtps_listen.specs.Printed.{IsUnopened, Prints};
+ghost use Rattle.std.specs.Prelude.{◌≡◌};
+ghost use Rattle.rtps_listen.specs.Printed.{Prints};
 ghost use Rattle.rtps_listen.specs.Request.{RefusesFirst};
+ghost use Rattle.rtps_listen.specs.Status.{passed};
 ghost use Rattle.rtps_listen.specs.declared.request.Request.TheVariants.{Dump, Explain, Replay, Samples};
 
 use crate::config::config_of;
@@ -11,54 +11,16 @@ use crate::fault::ListenFault;
 use crate::options::Options;
 use crate::setup::{cache_setup_of, setup_of};
 use dds_topic::{Raw, Shapes};
-use rtps_explain::explain;
-use rtps_records::RunFault;
-use rtps_text::{dump, replay, samples};
-use rtps_types::GuidPrefix;
+use rtps_files::{FileFault, RecordFiles, open_file};
+use rtps_text::{replay, samples};
 use std::alloc::Global;
-use std::io::{self, BufReader, Read, Write};
+use std::io::Write;
 use std::thread::Threads;
-
-/// How many octets are read of a file at a time: there are few calls of the system.
-const READ_AHEAD: usize = 65_536;
-
-/// Where the record files are that words name.
-pub trait RecordFiles {
-    /// A file that was opened.
-    type File: Read + Drop + Send;
-
-    ghost holds: { Self → List ℕ → Option (List ℕ) };
-
-    /// Opens the file of this name, or standard input if the name is `-`.
-    fn open(&self, name: &str) -> io::Result<Self::File>
-        ensures { IfOk result (λ file. Self.File.remaining file ≡ holds self.now name.now) };
-}
-
-/// Opens the file of this name, with a buffer. The fault is `CannotRead` if there is no such file,
-/// and `NoMemory`.
-fn open<F: RecordFiles>(
-    alloc: Global,
-    files: &F,
-    name: &str,
-) -> Result<BufReader<F::File>, ListenFault>
-    ensures holds { IfOk result (λ file. reader_remaining F.File.remaining file
-        ≡ F.holds files.now name.now) }
-    ensures fault { IfErr result IsUnopened }
-{
-    let Ok(file) = files.open(name) else {
-        return Err(ListenFault::Run(RunFault::CannotRead));
-    };
-    match BufReader::with_capacity(alloc, READ_AHEAD, file) {
-        Ok(reader) => Ok(reader),
-        Err(_) => Err(ListenFault::Run(RunFault::NoMemory)),
-    }
-}
 
 /// Does what `dump` is asked for: prints the events in a file.
 ///
 /// `BadPrefix` comes before the file is opened. Any other fault is that of the run.
-pub fn dump_file<F: RecordFiles, W: Write + Send, T: Threads + Sync>(
-    rt: &T,
+pub fn dump_file<F: RecordFiles, W: Write>(
     alloc: Global,
     files: &F,
     options: &Options<'_>,
@@ -68,11 +30,7 @@ pub fn dump_file<F: RecordFiles, W: Write + Send, T: Threads + Sync>(
     ensures prints { Prints (Dump options.now) (F.holds files.now)
         (W.contents writer.old) (W.contents writer.new) result }
 {
-    let Ok(own) = options.own.parse::<GuidPrefix>() else {
-        return Err(ListenFault::BadPrefix);
-    };
-    let mut file = open(alloc, files, options.file)?;
-    Ok(dump(rt, alloc, own, &mut file, writer)?)
+    passed(rtps_files::dump_file(alloc, files, options.own, options.file, writer))
 }
 
 /// Does what `explain` is asked for: prints what becomes of each submessage in a file.
@@ -88,11 +46,18 @@ pub fn explain_file<F: RecordFiles, W: Write>(
     ensures prints { Prints (Explain options.now) (F.holds files.now)
         (W.contents writer.old) (W.contents writer.new) result }
 {
-    let Ok(own) = options.own.parse::<GuidPrefix>() else {
-        return Err(ListenFault::BadPrefix);
-    };
-    let mut file = open(alloc, files, options.file)?;
-    Ok(explain(alloc, own, &mut file, writer)?)
+    passed(rtps_files::explain_file(alloc, files, options.own, options.file, writer))
+}
+
+/// Passes on how a file was printed.
+fn passed(given: Result<(), FileFault>) -> Result<(), ListenFault>
+    ensures { result ≡ passed given }
+{
+    match given {
+        Ok(()) => Ok(()),
+        Err(FileFault::BadPrefix) => Err(ListenFault::BadPrefix),
+        Err(FileFault::Run(fault)) => Err(ListenFault::Run(fault)),
+    }
 }
 
 /// Does what `replay` is asked for: prints what readers report and answer of a file.
@@ -111,7 +76,7 @@ pub fn replay_file<F: RecordFiles, W: Write + Send, T: Threads + Sync>(
         (W.contents writer.old) (W.contents writer.new) result }
 {
     let config = config_of(alloc, options)?;
-    let mut file = open(alloc, files, options.file)?;
+    let mut file = open_file(alloc, files, options.file)?;
     if options.raw {
         let setup = setup_of(options, config, Raw);
         return Ok(replay(rt, alloc, setup, &mut file, writer)?);
@@ -135,7 +100,7 @@ pub fn samples_file<F: RecordFiles, W: Write + Send, T: Threads + Sync>(
         (W.contents writer.old) (W.contents writer.new) result }
 {
     let config = config_of(alloc, options)?;
-    let mut file = open(alloc, files, options.file)?;
+    let mut file = open_file(alloc, files, options.file)?;
     if options.raw {
         let setup = cache_setup_of(options, config, Raw);
         return Ok(samples(rt, alloc, setup, &mut file, writer)?);

@@ -20,8 +20,8 @@ mod words;
 
 use domain::Network;
 use fault::ListenFault;
-use files::RecordFiles;
 use program::{Failure, run};
+use rtps_files::RecordFiles;
 use rtps_records::{Exchange, Receive, RunFault};
 use rtps_types::Locator;
 use rtps_udp::{Binding, SocketFault, Sockets};

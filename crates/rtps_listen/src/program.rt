@@ -5,11 +5,12 @@ ghost use Rattle.rtps_listen.specs.Program.{Does, Leaves};
 
 use crate::domain::{Network, listen_in};
 use crate::fault::ListenFault;
-use crate::files::{RecordFiles, dump_file, explain_file, replay_file, samples_file};
+use crate::files::{dump_file, explain_file, replay_file, samples_file};
 use crate::request::Request;
 use crate::words::read_words;
 use clap::Error;
 use clap::error::ErrorKind;
+use rtps_files::RecordFiles;
 use rtps_records::RunFault;
 use std::alloc::Global;
 use std::convert::AsStr;
@@ -66,7 +67,7 @@ fn perform<H: RecordFiles + Network, W: Write + Send, T: Threads + Sync>(
         host.old host.new (W.contents writer.old) (W.contents writer.new) result }
 {
     match request {
-        Request::Dump(options) => dump_file(rt, alloc, host, options, writer),
+        Request::Dump(options) => dump_file(alloc, host, options, writer),
         Request::Explain(options) => explain_file(alloc, host, options, writer),
         Request::Replay(options) => replay_file(rt, alloc, host, options, writer),
         Request::Samples(options) => samples_file(rt, alloc, host, options, writer),

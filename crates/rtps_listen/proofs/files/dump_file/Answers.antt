@@ -1,38 +1,8 @@
-use Rattle.std.proofs.Common.{◌≡◌, ◌∙◌, ap, sym, refl, false, true, is_ok, Ok, Err}
-use Rattle.rtps_listen.specs.declared.fault.ListenFault.TheVariants.{BadPrefix}
-use Rattle.rtps_listen.proofs.Printing.{dumps, dumps_none, run_fault, unopened_first, unopened_run, writes_all, writes_front}
-use Rattle.rtps_listen.proofs.Refused.{dump_refused, dump_runs}
+use Rattle.rtps_listen.proofs.Passed.{dump_prints, dump_refuses}
 use Rattle.rtps_listen.proofs.files.dump_file.Goals as goal
 
-pub returns-in_default-clause-refused : goal.returns-in_default-clause-refused
-returns-in_default-clause-refused g c =
-    dump_refused c.args.options.now (λ good. let none : false ≡ true = ap is_ok c.in_default.ensures.value ∙ good in cc)
-
-pub returns-in_default-clause-prints : goal.returns-in_default-clause-prints
-returns-in_default-clause-prints g c = dumps_none _ _ _ (Err BadPrefix) BadPrefix refl tt
-
-pub returns-in_err-file-clause-refused : goal.returns-in_err-file-clause-refused
-returns-in_err-file-clause-refused g c =
-    dump_runs c.args.options.now c.from_residual.result (ap is_ok (sym c.in-Ok.ensures.value))
-    (unopened_run _ _ c.from_residual.ensures.1 c.in_err-file.ensures.fault)
-
-pub returns-in_err-file-clause-prints : goal.returns-in_err-file-clause-prints
-returns-in_err-file-clause-prints g c = dumps_none _ _ _ _ _ c.from_residual.ensures.1 (unopened_first _ c.in_err-file.ensures.fault)
-
-pub returns-in_err-dump-clause-refused : goal.returns-in_err-dump-clause-refused
-returns-in_err-dump-clause-refused g c =
-    dump_runs c.args.options.now c.from_residual-in_err-dump.result (ap is_ok (sym c.in-Ok.ensures.value))
-    (run_fault _ _ c.from_residual-in_err-dump.ensures.1)
-
-pub returns-in_err-dump-clause-prints : goal.returns-in_err-dump-clause-prints
-returns-in_err-dump-clause-prints g c =
-    dumps _ c.in-Ok.own _ _ _ _ (sym c.in-Ok.ensures.value)
-    (writes_front _ _ _ _ _ _ _ _ c.in_ok-file.ensures.holds c.from_residual-in_err-dump.ensures.1 c.in_err-dump.ensures.fault)
-
 pub returns-clause-refused : goal.returns-clause-refused
-returns-clause-refused g c = dump_runs c.args.options.now (Ok tt) (ap is_ok (sym c.in-Ok.ensures.value)) tt
+returns-clause-refused g c = rw c.passed.ensures (dump_refuses c.args.options.now c.dump_file.result c.dump_file.ensures.refused)
 
 pub returns-clause-prints : goal.returns-clause-prints
-returns-clause-prints g c =
-    dumps _ c.in-Ok.own _ _ _ (Ok tt) (sym c.in-Ok.ensures.value)
-    (writes_all false _ _ _ _ _ c.in_ok-file.ensures.holds c.in_ok-dump.ensures.ok)
+returns-clause-prints g c = rw c.passed.ensures (dump_prints c.args.options.now _ _ _ c.dump_file.result c.dump_file.ensures.prints)

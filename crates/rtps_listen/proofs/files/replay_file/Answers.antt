@@ -1,5 +1,5 @@
 use Rattle.std.proofs.Common.{false, rules, true, Ok}
-use Rattle.rtps_listen.proofs.Printing.{cause_first, replays, replays_none, run_fault, unopened_first, unopened_run, writes_all, writes_front}
+use Rattle.rtps_listen.proofs.Printing.{cause_first, replays, replays_none, run_fault, unopened_first, writes_all, writes_front}
 use Rattle.rtps_listen.proofs.Refused.{replay_refused, replay_runs}
 use Rattle.rtps_listen.proofs.files.replay_file.Goals as goal
 
@@ -15,7 +15,7 @@ returns-in_err-config-clause-prints g c =
 pub returns-in_err-file-clause-refused : goal.returns-in_err-file-clause-refused
 returns-in_err-file-clause-refused g c =
     replay_runs c.args.options.now c.in_ok-config.config _ c.in_ok-config.ensures.refused
-    (unopened_run _ _ c.from_residual-in_err-file.ensures.1 c.in_err-file.ensures.fault)
+    (run_fault _ _ c.from_residual-in_err-file.ensures.1)
 
 pub returns-in_err-file-clause-prints : goal.returns-in_err-file-clause-prints
 returns-in_err-file-clause-prints g c =
