@@ -1,43 +1,35 @@
 -- What each sink does in a step of a run over a file: it processes a batch, or stops; and it
 -- finishes its text, or stops.
-use Rattle.std.proofs.Common.{◌≡◌, ℕ, ◌+◌, ◌<◌, ◌≤◌, ◌⊎◌, List, [], ◌∷◌, ◌++◌, Bool, Option, None, Result, Ok, Err, IfErr, OnErr, OnOk, arith, refl, subst, sym, ap, ◌∙◌, length, map, get_or, take, drop, inl, inr, length-append, append-nil, append_assoc, take-append-drop}
-use Rattle.std.proofs.lemmas.List.{drop_more}
+use Rattle.std.proofs.Common.{◌≡◌, ℕ, ◌+◌, ◌⊎◌, List, [], ◌∷◌, ◌++◌, Bool, Option, None, Result, Ok, Err, IfErr, OnErr, OnOk, refl, subst, sym, ap, ◌∙◌, length, take, drop, inl, inr, append-nil, append_assoc, take-append-drop}
 use Rattle.std.specs.Io.KnownBytes.{Appends}
 use Rattle.std.proofs.KnownBytes.{Appends-kept, Appends-nil, Appends-trans}
 use Rattle.std.specs.declared.alloc.AllocError.{AllocError}
 use Rattle.std.specs.declared.alloc.Global.{Global}
 use Rattle.std.specs.declared.vec.Vec.{Vec}
-use Rattle.rtps_types.specs.declared.datagram.Datagram.{Datagram}
-use Rattle.rtps_types.specs.declared.identity.GuidPrefix.{GuidPrefix}
 use Rattle.rtps_records.specs.Runs.{Closes, ClosesNot, Moves, PutsFront, Stops, WroteAll}
-use Rattle.rtps_records.specs.Text.{IsFront, datagrams_of, text_from, text_of}
+use Rattle.rtps_records.specs.Text.{IsFront}
 use Rattle.rtps_records.specs.declared.fault.RunFault.{RunFault}
 use Rattle.rtps_records.specs.declared.fault.RunFault.TheVariants.{CannotWrite, NoMemory}
-use Rattle.rtps_records.proofs.Printed.{text_both, texts_begin}
 use Rattle.dds_topic.specs.Decoding.{Decoding}
 use Rattle.rtps_discovery.specs.declared.config.Config.{Config}
 use Rattle.rtps_text.specs.Inputs.{run_by}
 use Rattle.dds_participant.specs.Ports.{NoneAttached}
-use Rattle.rtps_events.specs.EventLines.{lines_of}
 use Rattle.rtps_text.specs.Batched.{IsDue, IsSameRun, MovesBefore, TakesRecords}
 use Rattle.rtps_text.specs.Caches.{AreKept, StopsLate}
 use Rattle.rtps_text.specs.Entries.{samples_by}
 use Rattle.rtps_text.specs.Replayed.{HasSaid, text_by}
-use Rattle.rtps_text.specs.Sink.{HasTaken, IsKept, IsPrinted, IsTaken, datagrams_before, is_late, sink_text}
+use Rattle.rtps_text.specs.Sink.{HasTaken, IsKept, IsPrinted, IsTaken, is_late, sink_text}
 use Rattle.rtps_text.specs.Slices.{all_lines}
 use Rattle.rtps_text.specs.Taken.{ComesLast, Finishes, FinishesFront, StopsBy, Takes, TakesFront}
 use Rattle.rtps_text.specs.declared.printer.Printer.{Printer}
 use Rattle.rtps_text.specs.declared.running.RunLines.{RunLines}
 use Rattle.rtps_text.specs.declared.sampling.RunCaches.{RunCaches}
 use Rattle.rtps_text.specs.declared.sink.Sink.{Sink}
-use Rattle.rtps_text.specs.declared.sink.Sink.TheVariants.{Caches, Events, Lines}
+use Rattle.rtps_text.specs.declared.sink.Sink.TheVariants.{Caches, Lines}
 use Rattle.rtps_text.proofs.Batches.{by_place, said_more}
 use Rattle.rtps_text.proofs.Run.{fronts, same_text}
 use Rattle.rtps_text.proofs.Sampled.{same_samples}
-use Rattle.rtps_records.specs.Batches.{record_of}
-use Rattle.rtps_records.specs.RecordFile.{Datagram as ADatagram, Record, Tick}
-use Rattle.rtps_records.specs.declared.format.Format.{Format}
-use Rattle.rtps_records.proofs.Progress.{Progress}
+use Rattle.rtps_records.specs.RecordFile.{Record}
 
 -- ---- prefixes
 
@@ -61,84 +53,6 @@ empty_left (x ∷ a) b e = absurd (let bad : x ∷ (a ++ b) ≡ [] = e in cc)
 empty_right : (a b : List ℕ) → a ++ b ≡ [] → b ≡ []
 empty_right [] b e = e
 empty_right (x ∷ a) b e = absurd (let bad : x ∷ (a ++ b) ≡ [] = e in cc)
-
--- ---- events
-
--- the text from one datagram on: that of the datagram, and then that of the rest
-pub record_more : (line : ℕ → List ℕ → List ℕ) (n : ℕ) (xs : List Datagram) (i : ℕ) (d : Datagram) → i < length xs
-    → text_from line n (map record_of (drop i xs)) ≡ line n (get_or xs i d).bytes.now ++ text_from line (n + 1) (map record_of (drop (i + 1) xs))
-record_more line n xs i d below = ap (λ l. text_from line n (map record_of l)) (drop_more xs i d below)
-
--- the text of a batch comes after that of the records before it
-texts_after : (line : ℕ → List ℕ → List ℕ) (records batch : List Record) (n : ℕ) (written kept : List ℕ) → written ++ kept ≡ text_of line records → n ≡ length (datagrams_of records)
-    → written ++ (kept ++ text_from line n batch) ≡ text_of line (records ++ batch)
-texts_after line records batch n written kept said count =
-    let first : n ≡ 0 + length (datagrams_of records) = omega (arith, count) in
-    sym (append_assoc written kept (text_from line n batch)) ∙ ap (λ l. l ++ text_from line n batch) said
-    ∙ ap (λ k. text_of line records ++ text_from line k batch) first ∙ sym (text_both line 0 records batch)
-
--- the datagrams of records, and then those of a batch
-datagrams_both : (records batch : List Record) → datagrams_of (records ++ batch) ≡ datagrams_of records ++ datagrams_of batch
-datagrams_both [] batch = refl
-datagrams_both (ADatagram moment octets ∷ records) batch = ap (λ l. octets ∷ l) (datagrams_both records batch)
-datagrams_both (Tick moment ∷ records) batch = datagrams_both records batch
-
--- there are no more datagrams than records
-pub datagrams_fewer : (records : List Record) → length (datagrams_of records) ≤ length records
-datagrams_fewer [] = omega arith
-datagrams_fewer (ADatagram moment octets ∷ records) = omega (arith, datagrams_fewer records)
-datagrams_fewer (Tick moment ∷ records) = omega (arith, datagrams_fewer records)
-
--- the number of datagrams so far leaves room for those of a batch
-counted_by : {C V U M : Type 0} (text : C → M → List ℕ) (f : V → M) (decoding : C → Decoding M) (sink : Sink C V U) (texts : List (Result (Vec ℕ Global) AllocError)) (records batch : List Record) (said : List ℕ)
-    → IsTaken text f decoding sink texts records said → length records + length batch ≤ 4294967295 → datagrams_before sink + length batch ≤ 4294967295
-unfolding IsTaken datagrams_before
-counted_by text f decoding (Events own next alloc) texts records batch said taken few =
-    let count = taken.1 in
-    let fewer = datagrams_fewer records in
-    omega (arith, count, fewer, few)
-counted_by text f decoding (Lines run printer) texts records batch said taken few = omega (arith, few)
-counted_by text f decoding (Caches kept) texts records batch said taken few = omega (arith, few)
-
-pub counted_on : {C V U M : Type 0} (text : C → M → List ℕ) (f : V → M) (decoding : C → Decoding M) (sink : Sink C V U) (texts : List (Result (Vec ℕ Global) AllocError)) (n : ℕ) (format : Format) (file now old new : Option (List ℕ)) (kept : List ℕ) (batch : List Record)
-    → n + length batch ≤ 4294967295 → Progress format (IsTaken text f decoding sink texts) file now old new n kept → datagrams_before sink + length batch ≤ 4294967295
-counted_on text f decoding sink texts n format file now old new kept batch few p =
-    counted_by text f decoding sink texts p.records batch (p.written ++ kept) p.says (omega (arith, p.count, few))
-
-events_take : {C V M : Type 0} (U : Type 0) (text : C → M → List ℕ) (f : V → M) (decoding : C → Decoding M) (own : GuidPrefix) (first next : ℕ) (alloc : Global) (texts made : List (Result (Vec ℕ Global) AllocError)) (batch : List Record) (old new : Option (List ℕ)) (kept left : List ℕ)
-    → Moves old new (kept ++ text_from (lines_of own) first batch) left → next ≡ first + length (datagrams_of batch)
-    → Takes (IsTaken {C = C} {V = V} {U = U} {M = M} text f decoding (Events own first alloc) texts) (IsTaken {C = C} {V = V} {U = U} {M = M} text f decoding (Events own next alloc) made) batch old new kept left
-unfolding Takes IsTaken
-events_take U text f decoding own first next alloc texts made batch old new kept left m more = λ records written said. (
-  m.0,
-  m.1,
-  (
-    append_assoc written m.0 left ∙ ap (λ l. written ++ l) (sym m.2) ∙ texts_after (lines_of own) records batch first written kept said.0 said.1,
-    more ∙ ap (λ k. k + length (datagrams_of batch)) said.1 ∙ sym (length-append (datagrams_of records) (datagrams_of batch)) ∙ ap length (sym (datagrams_both records batch)),
-  ),
-)
-
-events_front : {C V M : Type 0} (U : Type 0) (text : C → M → List ℕ) (f : V → M) (decoding : C → Decoding M) (own : GuidPrefix) (first : ℕ) (alloc : Global) (texts : List (Result (Vec ℕ Global) AllocError)) (batch : List Record) (old new : Option (List ℕ)) (kept : List ℕ)
-    → PutsFront old new (kept ++ text_from (lines_of own) first batch)
-    → TakesFront (IsTaken {C = C} {V = V} {U = U} {M = M} text f decoding (Events own first alloc) texts) (sink_text {C = C} {V = V} {U = U} {M = M} text decoding (Events own first alloc)) batch old new kept
-unfolding TakesFront IsTaken sink_text
-events_front U text f decoding own first alloc texts batch old new kept p = λ records written said.
-    let octets = kept ++ text_from (lines_of own) first batch in (
-      take p.0 octets,
-      p.1,
-      λ more. front_put written octets _ p.0 (texts_begin (lines_of own) (records ++ batch) more (written ++ octets) (texts_after (lines_of own) records batch first written kept said.0 said.1)),
-    )
-
-events_finish : {C V M : Type 0} (U : Type 0) (text : C → M → List ℕ) (f : V → M) (decoding : C → Decoding M) (own : GuidPrefix) (next : ℕ) (alloc : Global) (texts : List (Result (Vec ℕ Global) AllocError)) (old new : Option (List ℕ)) (kept : List ℕ)
-    → Appends old new kept → Finishes (IsTaken {C = C} {V = V} {U = U} {M = M} text f decoding (Events own next alloc) texts) (sink_text {C = C} {V = V} {U = U} {M = M} text decoding (Events own next alloc)) old new kept
-unfolding Finishes IsTaken sink_text
-events_finish U text f decoding own next alloc texts old new kept put = λ records written said. (kept, put, sym said.0)
-
-events_stop : {C V M : Type 0} (U : Type 0) (text : C → M → List ℕ) (f : V → M) (decoding : C → Decoding M) (own : GuidPrefix) (next : ℕ) (alloc : Global) (texts : List (Result (Vec ℕ Global) AllocError)) (late : Bool) (fault : RunFault) (old new : Option (List ℕ)) (kept : List ℕ)
-    → PutsFront old new kept → FinishesFront late fault (IsTaken {C = C} {V = V} {U = U} {M = M} text f decoding (Events own next alloc) texts) (sink_text {C = C} {V = V} {U = U} {M = M} text decoding (Events own next alloc)) old new kept
-unfolding FinishesFront IsTaken sink_text
-events_stop U text f decoding own next alloc texts late fault old new kept p = λ records written said.
-    (take p.0 kept, p.1, inl (λ more. front_put written kept _ p.0 (texts_begin (lines_of own) records more (written ++ kept) said.0)))
 
 -- ---- lines
 
@@ -316,43 +230,6 @@ caches_stop text f decoding kept texts fault old new left cause puts = λ record
 
 -- ---- each kind of sink
 
-pub events_taken : {C V U M : Type 0} (text : C → M → List ℕ) (f : V → M) (decoding : C → Decoding M) (sink : Sink C V U) (own : GuidPrefix) (first next : ℕ) (alloc : Global) (texts made : List (Result (Vec ℕ Global) AllocError)) (batch : List Record) (old new : Option (List ℕ)) (kept left : List ℕ)
-    → sink ≡ Events own first alloc → Moves old new (kept ++ text_from (lines_of own) first batch) left → next ≡ first + length (datagrams_of batch)
-    → Takes (IsTaken text f decoding sink texts) (IsTaken {U = U} text f decoding (Events own next alloc) made) batch old new kept left
-events_taken {U = U} text f decoding sink own first next alloc texts made batch old new kept left is moves more =
-    rw is (events_take U text f decoding own first next alloc texts made batch old new kept left moves more)
-
-pub events_broken : {C V U M : Type 0} (text : C → M → List ℕ) (f : V → M) (decoding : C → Decoding M) (sink : Sink C V U) (own : GuidPrefix) (first : ℕ) (alloc : Global) (texts : List (Result (Vec ℕ Global) AllocError)) (batch : List Record) (old new : Option (List ℕ)) (kept : List ℕ)
-    → sink ≡ Events own first alloc → PutsFront old new (kept ++ text_from (lines_of own) first batch)
-    → TakesFront (IsTaken text f decoding sink texts) (sink_text text decoding sink) batch old new kept
-events_broken {U = U} text f decoding sink own first alloc texts batch old new kept is puts =
-    rw is (events_front U text f decoding own first alloc texts batch old new kept puts)
-
--- an events sink has the text and the lateness of one with another number of datagrams
-pub events_alike : {C V U M : Type 0} (text : C → M → List ℕ) (decoding : C → Decoding M) (sink : Sink C V U) (own : GuidPrefix) (first next : ℕ) (alloc : Global)
-    → sink ≡ Events own first alloc → (those : List Record) → sink_text {C = C} {V = V} {U = U} text decoding (Events own next alloc) those ≡ sink_text text decoding sink those
-unfolding sink_text
-events_alike text decoding sink own first next alloc is those = rw is refl
-
-pub events_late : {C V U : Type 0} (sink : Sink C V U) (own : GuidPrefix) (first next : ℕ) (alloc : Global) → sink ≡ Events own first alloc → is_late {C = C} {V = V} {U = U} (Events own next alloc) ≡ is_late sink
-unfolding is_late
-events_late sink own first next alloc is = sym (ap is_late is)
-
--- so it leaves room for the datagrams of a batch where the sink does
-pub events_counted : {C V U : Type 0} (sink : Sink C V U) (own : GuidPrefix) (first : ℕ) (alloc : Global) (more : ℕ) → sink ≡ Events own first alloc → datagrams_before sink + more ≤ 4294967295 → first + more ≤ 4294967295
-unfolding datagrams_before
-events_counted sink own first alloc more is few = rw is at few
-
-pub events_finished : {T : Type 0} {C V U M : Type 0} (text : C → M → List ℕ) (f : V → M) (decoding : C → Decoding M) (sink : Sink C V U) (own : GuidPrefix) (next : ℕ) (alloc : Global) (texts : List (Result (Vec ℕ Global) AllocError)) (old new : Option (List ℕ)) (kept : List ℕ) (r : Result T RunFault)
-    → sink ≡ Events own next alloc → OnOk r (Appends old new kept) → OnOk r (Finishes (IsTaken text f decoding sink texts) (sink_text text decoding sink) old new kept)
-events_finished {U = U} text f decoding sink own next alloc texts old new kept (Ok x) is put = rw is (events_finish U text f decoding own next alloc texts old new kept put)
-events_finished text f decoding sink own next alloc texts old new kept (Err e) is put = tt
-
-pub events_unfinished : {T : Type 0} {C V U M : Type 0} (text : C → M → List ℕ) (f : V → M) (decoding : C → Decoding M) (sink : Sink C V U) (own : GuidPrefix) (next : ℕ) (alloc : Global) (texts : List (Result (Vec ℕ Global) AllocError)) (late : Bool) (old new : Option (List ℕ)) (kept : List ℕ) (r : Result T RunFault)
-    → sink ≡ Events own next alloc → OnErr r (PutsFront old new kept) → IfErr r (λ fault. FinishesFront late fault (IsTaken text f decoding sink texts) (sink_text text decoding sink) old new kept)
-events_unfinished text f decoding sink own next alloc texts late old new kept (Ok x) is put = tt
-events_unfinished {U = U} text f decoding sink own next alloc texts late old new kept (Err e) is put = rw is (events_stop U text f decoding own next alloc texts late e old new kept put)
-
 pub lines_alone : {C V U M : Type 0} (text : C → M → List ℕ) (f : V → M) (decoding : C → Decoding M) (sink : Sink C V U) (run : RunLines C V U) (printer : Printer C V U) (texts : List (Result (Vec ℕ Global) AllocError)) (left : List ℕ)
     → sink ≡ Lines run printer → HasTaken text f decoding sink texts left → NoneAttached run.participant.ports
 lines_alone text f decoding sink run printer texts left is h =
@@ -460,21 +337,6 @@ caches_unfinished text f decoding sink kept texts old new left (Ok x) is cause p
 caches_unfinished text f decoding sink kept texts old new left (Err e) is cause puts = rw is (caches_stop text f decoding kept texts e old new left cause puts)
 
 -- ---- whole runs
-
-pub events_begun : {C V M : Type 0} (U : Type 0) (text : C → M → List ℕ) (f : V → M) (decoding : C → Decoding M) (own : GuidPrefix) (alloc : Global) (texts : List (Result (Vec ℕ Global) AllocError)) → IsTaken {U = U} text f decoding (Events own 0 alloc) texts [] []
-unfolding IsTaken
-events_begun U text f decoding own alloc texts = (refl, refl)
-
-pub events_wrote : {T C M : Type 0} (V U : Type 0) (text : C → M → List ℕ) (decoding : C → Decoding M) (own : GuidPrefix) (next : ℕ) (alloc : Global) (before old new : Option (List ℕ)) (r : Result T RunFault)
-    → OnOk r (WroteAll (sink_text {C = C} {V = V} {U = U} text decoding (Events own next alloc)) before old new None) → OnOk r (WroteAll (text_of (lines_of own)) before old new None)
-unfolding sink_text
-events_wrote V U text decoding own next alloc before old new r h = h
-
-pub events_left : {T C M : Type 0} (V U : Type 0) (text : C → M → List ℕ) (decoding : C → Decoding M) (own : GuidPrefix) (next : ℕ) (alloc : Global) (before after old new : Option (List ℕ)) (r : Result T RunFault)
-    → IfErr r (λ fault. StopsBy (is_late {C = C} {V = V} {U = U} (Events own next alloc)) (sink_text {C = C} {V = V} {U = U} text decoding (Events own next alloc)) fault before after old new)
-    → IfErr r (λ fault. Stops (text_of (lines_of own)) fault before after old new)
-unfolding sink_text is_late StopsBy
-events_left V U text decoding own next alloc before after old new r h = h
 
 pub lines_wrote : {T C V U M : Type 0} (text : C → M → List ℕ) (decoding : C → Decoding M) (run : RunLines C V U) (printer : Printer C V U) (before old new : Option (List ℕ)) (r : Result T RunFault)
     → OnOk r (WroteAll (sink_text text decoding (Lines run printer)) before old new None) → OnOk r (WroteAll (text_by text decoding run.participant.engine run.summary) before old new None)

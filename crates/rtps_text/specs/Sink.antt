@@ -3,10 +3,8 @@ use Rattle.std.specs.Prelude.{◌≡◌, ℕ, List, [], ◌++◌, Bool, true, fa
 use Rattle.std.specs.declared.alloc.AllocError.{AllocError}
 use Rattle.std.specs.declared.alloc.Global.{Global}
 use Rattle.std.specs.declared.vec.Vec.{Vec}
-use Rattle.rtps_records.specs.Text.{datagrams_of, text_of}
 use Rattle.dds_topic.specs.Decoding.{Decoding}
 use Rattle.dds_participant.specs.Ports.{NoneAttached}
-use Rattle.rtps_events.specs.EventLines.{lines_of}
 use Rattle.rtps_text.specs.Batched.{IsDue}
 use Rattle.rtps_text.specs.Caches.{AreKept}
 use Rattle.rtps_text.specs.Entries.{samples_by}
@@ -14,28 +12,19 @@ use Rattle.rtps_text.specs.Replayed.{HasSaid, text_by}
 use Rattle.rtps_text.specs.declared.running.RunLines.{RunLines}
 use Rattle.rtps_text.specs.declared.sampling.RunCaches.{RunCaches}
 use Rattle.rtps_text.specs.declared.sink.Sink.{Sink}
-use Rattle.rtps_text.specs.declared.sink.Sink.TheVariants.{Caches, Events, Lines}
+use Rattle.rtps_text.specs.declared.sink.Sink.TheVariants.{Caches, Lines}
 use Rattle.rtps_records.specs.RecordFile.{Record}
 
--- the text for these records: the lines of their events, the lines of a run over them, or the lines
--- of what its readers keep
+-- the text for these records: the lines of a run over them, or the lines of what its readers keep
 unfoldable pub sink_text : {C V U M : Type 0} → (C → M → List ℕ) → (C → Decoding M) → Sink C V U
     → List Record → List ℕ
-sink_text text decoding (Events own next alloc) records = text_of (lines_of own) records
 sink_text text decoding (Lines run printer) records =
     text_by text decoding run.participant.engine run.summary records
 sink_text text decoding (Caches kept) records =
     samples_by text decoding kept.run.participant.engine kept.run.summary kept.keep records
 
--- the number of datagrams whose events were printed
-unfoldable pub datagrams_before : {C V U : Type 0} → Sink C V U → ℕ
-datagrams_before (Events own next alloc) = next
-datagrams_before (Lines run printer) = 0
-datagrams_before (Caches kept) = 0
-
 -- whether text is written while the last lines are made
 unfoldable pub is_late : {C V U : Type 0} → Sink C V U → Bool
-is_late (Events own next alloc) = false
 is_late (Lines run printer) = false
 is_late (Caches kept) = true
 
@@ -66,8 +55,6 @@ pub record IsKept {C V U M : Type 0} (f : V → M) (decoding : C → Decoding M)
 -- written
 unfoldable pub IsTaken : {C V U M : Type 0} → (C → M → List ℕ) → (V → M) → (C → Decoding M)
     → Sink C V U → List (Result (Vec ℕ Global) AllocError) → List Record → List ℕ → Type 0
-IsTaken text f decoding (Events own next alloc) texts records said =
-    (said ≡ text_of (lines_of own) records) × (next ≡ length (datagrams_of records))
 IsTaken text f decoding (Lines run printer) texts records said =
     IsPrinted text f decoding run printer.catalog.now printer.readers texts records said
 IsTaken text f decoding (Caches kept) texts records said = IsKept f decoding kept records said

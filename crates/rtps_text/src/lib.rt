@@ -4,7 +4,6 @@
 mod beside;
 mod caches;
 mod closing;
-mod dumping;
 mod file_run;
 mod line_formatter;
 mod listening;
@@ -22,7 +21,6 @@ mod sink;
 mod slices;
 mod texts;
 
-pub use dumping::dump;
 pub use listening::listen;
 pub use live_fault::LiveFault;
 pub use replaying::replay;

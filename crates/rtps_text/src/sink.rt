@@ -1,14 +1,13 @@
 //! The sinks of a run over a file, which process its records and print their text.
 
-ghost use Rattle.std.specs.Prelude.{◌≡◌, ◌+◌, ◌≤◌, ◌⊎◌, false, IfErr, IfOk, List, OnErr, OnOk, Option, length, ℕ};
+ghost use Rattle.std.specs.Prelude.{◌≡◌, ◌≤◌, ◌⊎◌, false, IfErr, IfOk, List, OnErr, OnOk, Option, length, ℕ};
 ghost use Rattle.rtps_records.specs.Batches.{records_in};
 ghost use Rattle.rtps_records.specs.RecordFile.{Record};
 ghost use Rattle.rtps_records.specs.declared.fault.RunFault.TheVariants.{CannotWrite, NoMemory};
 ghost use Rattle.rtps_text.specs.Ahead.{Ended, ReadsAhead, goes_on};
-ghost use Rattle.rtps_text.specs.Sink.{HasTaken, IsTaken, datagrams_before, is_late, sink_text};
+ghost use Rattle.rtps_text.specs.Sink.{HasTaken, IsTaken, is_late, sink_text};
 ghost use Rattle.rtps_text.specs.Taken.{Finishes, FinishesFront, Takes, TakesFront};
 
-use crate::dumping::print_batch;
 use crate::pipeline::Pipeline;
 use crate::printer::Printer;
 use crate::running::RunLines;
@@ -16,22 +15,12 @@ use crate::sampling::RunCaches;
 use crate::texts::Texts;
 use dds_topic::TextCatalog;
 use rtps_records::{Lines, Records, RunFault};
-use rtps_types::GuidPrefix;
-use std::alloc::Global;
 use std::io::{Read, Write};
 use std::thread::Threads;
 
 /// The sink of a run over a file: what processes the records and prints their text.
 #[derive(Drop)]
 pub(crate) enum Sink<'c, C: TextCatalog> {
-    /// The events of each datagram, as the participant with the prefix `own` sees them. Their lines
-    /// are added at once.
-    Events {
-        own: GuidPrefix,
-        /// The number of the next datagram.
-        next: u32,
-        alloc: Global,
-    },
     /// What readers report and answer. Its lines are formatted while the next batch is run.
     Lines {
         run: RunLines<C>,
@@ -57,8 +46,6 @@ where
         lines: &mut Lines<'_, W>,
     ) -> Result<Sink<'c, C>, RunFault>
         requires few { length (records_in pipeline.old.ahead.next) ≤ 4096 }
-        requires counted { datagrams_before self
-            + length (records_in pipeline.old.ahead.next) ≤ 4294967295 }
         requires taken { HasTaken C.text_of C.view C.decoding self
             pipeline.old.ahead.texts.made.items lines.old.text.items }
         ensures text { IfOk result (λ now. (those : List Record)
@@ -91,11 +78,6 @@ where
             lines.old.text.items) }
     {
         match self {
-            Sink::Events { own, next, alloc } => {
-                let next = print_batch(alloc, own, next, &pipeline.ahead.next, lines)?;
-                pipeline.ahead.read(records)?;
-                Ok(Sink::Events { own, next, alloc })
-            }
             Sink::Lines { run, mut printer } => {
                 let run = printer.print_and_take(rt, run, pipeline, records, lines)?;
                 Ok(Sink::Lines { run, printer })
@@ -134,7 +116,6 @@ where
             lines.old.text.items) }
     {
         match self {
-            Sink::Events { .. } => lines.close(),
             Sink::Lines { run, mut printer } => {
                 printer.print_last(rt, &run.given, texts, lines)?;
                 run.close(lines)

@@ -11,7 +11,6 @@ use Rattle.rtps_text.proofs.Batches.{at_end, ends_here, fault_in, fewer_left}
 use Rattle.rtps_text.proofs.FileRun.{all_written, stops_by, stops_finishing, stops_taking, taken_last, taken_on}
 use Rattle.rtps_text.proofs.FileRun as file
 use Rattle.rtps_text.proofs.Run.{of_cause}
-use Rattle.rtps_text.proofs.Sinks.{counted_on}
 use Rattle.rtps_text.proofs.file_run.take_all.Goals as goal
 
 pub returns-in_err-open-clause-fault : goal.returns-in_err-open-clause-fault
@@ -46,16 +45,6 @@ loop-sink-init g c =
             (subst (λ (t : Texts). IsTaken g.C.Catalog.text_of g.C.Catalog.view g.C.Catalog.decoding c.args.sink t.made.items [] []) (sym c.read.ensures.texts) c.requires.begun) (rw c.in_ok-open.ensures.format c.in_ok-open.ensures.ok)));
       });
     }
-
-pub take_and_read-requires-clause-counted : goal.take_and_read-requires-clause-counted
-take_and_read-requires-clause-counted g c κs within =
-    let p = c.loop-sink.invariant.taking in
-    counted_on _ _ _ _ _ _ _ _ _ _ _ _ _ (file.few_then _ _ _ _ _ _ _ _ p.few p.ahead) p.so_far
-
-pub take_and_read-requires-2-clause-counted : goal.take_and_read-requires-2-clause-counted
-take_and_read-requires-2-clause-counted g c κs within =
-    let p = c.loop-sink.invariant.taking in
-    counted_on _ _ _ _ _ _ _ _ _ _ _ _ _ (file.few_then _ _ _ _ _ _ _ _ p.few p.ahead) p.so_far
 
 pub returns-in_err-sink-clause-fault : goal.returns-in_err-sink-clause-fault
 returns-in_err-sink-clause-fault g c =

@@ -1,5 +1,5 @@
 use Rattle.rtps_records.proofs.Faults.{at_fault}
-use Rattle.rtps_text.proofs.Sinks.{caches_finished, caches_silent, caches_unfinished, closing_faults, events_finished, events_unfinished, lines_finished, lines_unclosed, lines_unprinted}
+use Rattle.rtps_text.proofs.Sinks.{caches_finished, caches_silent, caches_unfinished, closing_faults, lines_finished, lines_unclosed, lines_unprinted}
 use Rattle.rtps_text.proofs.sink.Sink.close.Goals as goal
 
 pub returns-in_err-print_last-in-Lines-clause-front : goal.returns-in_err-print_last-in-Lines-clause-front
@@ -10,14 +10,6 @@ returns-in_err-print_last-in-Lines-clause-front g c =
 pub close-requires-in-Caches-clause-empty : goal.close-requires-in-Caches-clause-empty
 close-requires-in-Caches-clause-empty g c κs within =
     caches_silent g.C.Catalog.text_of g.C.Catalog.view g.C.Catalog.decoding c.args.self c.in-Caches.kept _ _ c.in-Caches.is c.requires.taken
-
-pub returns-in-Events-clause-ok : goal.returns-in-Events-clause-ok
-returns-in-Events-clause-ok g c =
-    events_finished g.C.Catalog.text_of g.C.Catalog.view g.C.Catalog.decoding c.args.self c.in-Events.own _ c.in-Events.alloc _ _ _ _ c.close.result c.in-Events.is c.close.ensures.ok
-
-pub returns-in-Events-clause-front : goal.returns-in-Events-clause-front
-returns-in-Events-clause-front g c =
-    events_unfinished g.C.Catalog.text_of g.C.Catalog.view g.C.Catalog.decoding c.args.self c.in-Events.own _ c.in-Events.alloc _ _ _ _ _ c.close.result c.in-Events.is c.close.ensures.front
 
 pub returns-in_ok-print_last-in-Lines-clause-ok : goal.returns-in_ok-print_last-in-Lines-clause-ok
 returns-in_ok-print_last-in-Lines-clause-ok g c =

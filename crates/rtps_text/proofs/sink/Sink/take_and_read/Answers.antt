@@ -1,20 +1,6 @@
-use Rattle.rtps_text.proofs.Batches.{moved_front}
 use Rattle.rtps_text.proofs.Run.{on_err}
-use Rattle.rtps_text.proofs.Sinks.{caches_alike, caches_alone, caches_broken, caches_kept, caches_late, caches_taken, events_alike, events_broken, events_counted, events_late, events_taken, lines_alike, lines_alone, lines_broken, lines_late, lines_taken}
+use Rattle.rtps_text.proofs.Sinks.{caches_alike, caches_alone, caches_broken, caches_kept, caches_late, caches_taken, lines_alike, lines_alone, lines_broken, lines_late, lines_taken}
 use Rattle.rtps_text.proofs.sink.Sink.take_and_read.Goals as goal
-
-pub returns-in_err-next-in-Events-clause-front : goal.returns-in_err-next-in-Events-clause-front
-returns-in_err-next-in-Events-clause-front g c =
-    on_err _ (events_broken g.C.Catalog.text_of g.C.Catalog.view g.C.Catalog.decoding c.args.self c.in-Events.own c.in-Events.next c.in-Events.alloc _ _ _ _ _ c.in-Events.is c.in_err-next-in-Events.ensures.front)
-
-pub returns-in_err-read-in-Events-clause-front : goal.returns-in_err-read-in-Events-clause-front
-returns-in_err-read-in-Events-clause-front g c =
-    on_err _ (events_broken g.C.Catalog.text_of g.C.Catalog.view g.C.Catalog.decoding c.args.self c.in-Events.own c.in-Events.next c.in-Events.alloc _ _ _ _ _ c.in-Events.is (moved_front _ _ _ _ c.in_ok-next-in-Events.ensures.ok))
-
-pub print_batch-requires : goal.print_batch-requires
-print_batch-requires g c = record {
-  counted = events_counted c.args.self c.in-Events.own c.in-Events.next c.in-Events.alloc _ c.in-Events.is c.requires.counted;
-}
 
 pub print_and_take-requires-clause-alone : goal.print_and_take-requires-clause-alone
 print_and_take-requires-clause-alone g c κs within =
@@ -39,18 +25,6 @@ returns-in_err-take-in-Caches-clause-front g c =
 pub returns-in_err-read-in-Caches-clause-front : goal.returns-in_err-read-in-Caches-clause-front
 returns-in_err-read-in-Caches-clause-front g c =
     on_err _ (caches_broken g.C.Catalog.text_of g.C.Catalog.view g.C.Catalog.decoding c.args.self c.in-Caches.kept _ _ _ _ _ c.in-Caches.is)
-
-pub returns-in_ok-read-in-Events-clause-takes : goal.returns-in_ok-read-in-Events-clause-takes
-returns-in_ok-read-in-Events-clause-takes g c =
-    events_taken g.C.Catalog.text_of g.C.Catalog.view g.C.Catalog.decoding c.args.self c.in-Events.own c.in-Events.next _ c.in-Events.alloc _ _ _ _ _ _ _ c.in-Events.is c.in_ok-next-in-Events.ensures.ok c.in_ok-next-in-Events.ensures.next
-
-pub returns-in_ok-read-in-Events-clause-text : goal.returns-in_ok-read-in-Events-clause-text
-returns-in_ok-read-in-Events-clause-text g c =
-    events_alike g.C.Catalog.text_of g.C.Catalog.decoding c.args.self c.in-Events.own c.in-Events.next _ c.in-Events.alloc c.in-Events.is
-
-pub returns-in_ok-read-in-Events-clause-late : goal.returns-in_ok-read-in-Events-clause-late
-returns-in_ok-read-in-Events-clause-late g c =
-    events_late c.args.self c.in-Events.own c.in-Events.next _ c.in-Events.alloc c.in-Events.is
 
 pub returns-in_ok-run-in-Lines-clause-text : goal.returns-in_ok-run-in-Lines-clause-text
 returns-in_ok-run-in-Lines-clause-text g c =
