@@ -11,6 +11,7 @@ file that holds what is in `file.hex`. A row that is longer, or that a script sa
 place of `records`, they give the moments of a file with moments, each with its datagram, or with None for a tick. Where a
 row has the file `memory`, a run may take the MiB of address space that it names; it has one worker, since each thread takes
 some of its own. Where it has the file `output`, standard output is the file named there, or is closed where none is. Where
+PROGRAM is `rtps_dump`, which has two of the commands, only their rows are run, and its faults begin with its own name. Where
 the status is 2 and the row has no `stderr`, the text of standard error is the command line's own and free. A row of `replay`
 or `samples` is run with every batch size and worker count below, which change nothing. A row that fails names itself and
 shows the first difference. The last line is 'N passed, M failed', counted by runs.
@@ -36,6 +37,8 @@ HERE = Path(__file__).resolve().parent
 BATCHES = (None, "1", "2", "4096")
 WORKERS = (None, "1", "2", "7")
 SECONDS = 120
+SOME_COMMANDS = {"rtps_dump": ("dump", "explain")}
+"""The commands of a program that hasn't all."""
 MOST_OF_A_CASE = 65_536
 """Octets of input of a row that a program that is not proved, which is some 400 times slower, is run on."""
 
@@ -102,7 +105,7 @@ def fault_of(program, words, row):
         except subprocess.TimeoutExpired:
             return f"no end in {SECONDS} seconds"
     status = int(content(row / "status") or b"0")
-    err = content(row / "stderr")
+    err = content(row / "stderr").replace(b"rtps_listen", os.fsencode(os.path.basename(program)))
     if done.returncode != status:
         return f"status {done.returncode}, wanted {status}; standard error: {done.stderr[-300:]!r}"
     if done.stdout != out:
@@ -152,7 +155,8 @@ def main():
         return 1 if failed or not passed else 0
     program, groups = os.path.abspath(sys.argv[1]), sys.argv[2:]
     rows = sorted(path.parent for path in HERE.glob("*/*/args") if not groups or path.parent.parent.name in groups)
-    runs = [(row, words) for row in rows for words in runs_of(row)]
+    commands = SOME_COMMANDS.get(os.path.basename(program))
+    runs = [(row, words) for row in rows for words in runs_of(row) if not (commands and words) or words[0] in commands]
     with ThreadPoolExecutor(os.cpu_count()) as pool:
         faults = list(pool.map(lambda run: fault_of(program, run[1], run[0]), runs))
     for (row, words), fault in zip(runs, faults):

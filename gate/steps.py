@@ -21,16 +21,17 @@ LISTENER = "rtps_listen"
 FIRST_PROGRAM = "rtps_dump"
 """The program of few crates, which is there first, and answers two of the commands."""
 SCRIPTS = (
-    ("conformance rows", "run.py"),
-    ("files by many cuts", "cuts.py"),
-    ("a peer on loopback", "live.py"),
-    ("datagrams cut at each octet", "truncated.py"),
-    ("memory that is refused", "starved.py"),
-    ("files and pipes that fail", "failing.py"),
-    ("random octets", "fuzzed.py"),
-    ("floods", "floods.py"),
+    (LISTENER, "conformance rows", "run.py"),
+    (LISTENER, "files by many cuts", "cuts.py"),
+    (LISTENER, "a peer on loopback", "live.py"),
+    (LISTENER, "datagrams cut at each octet", "truncated.py"),
+    (LISTENER, "memory that is refused", "starved.py"),
+    (LISTENER, "files and pipes that fail", "failing.py"),
+    (LISTENER, "random octets", "fuzzed.py"),
+    (LISTENER, "floods", "floods.py"),
+    (FIRST_PROGRAM, "conformance rows of two commands", "run.py"),
 )
-"""What is run on it: its name, and its file in conformance/."""
+"""What is run on a program: its name, and its file in conformance/."""
 TEST_SECONDS = "300"
 """How long the tests of a crate may run once they are built."""
 ROW_SECONDS = "120"
@@ -343,18 +344,18 @@ def rows_tasks(gate, crates):
 
 
 def program_tasks(gate, crates):
-    """Tasks for the programs, and for what is run on that of the conformance rows."""
+    """Tasks for the programs, and for what is run on them."""
     for crate in (crate for crate in crates if crate.is_program):
         total = partial(run_total, gate, crate, [crate.folder / part for part in BESIDE])
         call = lambda jobs, it=crate: build(gate, it, jobs)
         name, is_there = f"{crate.name}: program", is_built(crate, gate.kept.toolchain)
         yield task(gate, name, total, call, (crate.name,), crate.lines() / 4, is_there)
+        total = partial(run_total, gate, crate, [TOP / "conformance"])
+        for says, script in ((says, script) for runs, says, script in SCRIPTS if runs == crate.name):
+            words = ["python3", str(TOP / "conformance" / script), str(crate.out / crate.name)]
+            call = lambda jobs, it=says, words=words: passes(it, words, TOP, r"^(\d+) passed, 0 failed\s*\Z")
+            yield task(gate, says, total, call, (name,), FIRST)
         if crate.name == LISTENER:
-            total = partial(run_total, gate, crate, [TOP / "conformance"])
             prints = rf"\A{re.escape((crate.folder / 'stdout').read_text(encoding='utf-8'))}\Z"
             words = [str(TOP / "run"), "dump", str(crate.folder / "stdin")]
             yield Task("./run", lambda jobs, words=words, prints=prints: passes("./run", words, TOP, prints), (name,), 100)
-            for says, script in SCRIPTS:
-                words = ["python3", str(TOP / "conformance" / script), str(crate.out / crate.name)]
-                call = lambda jobs, it=says, words=words: passes(it, words, TOP, r"^(\d+) passed, 0 failed\s*\Z")
-                yield task(gate, says, total, call, (name,), FIRST)
