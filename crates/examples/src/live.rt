@@ -11,6 +11,8 @@ mod receiver;
 use anyhow::{Result, bail};
 use peer::Peer;
 use receiver::Receiver;
+use std::alloc::Global;
+use std::net::Net;
 use std::sync::Wait;
 use std::sync::atomic::{AtomicBool, Ordering};
 use std::thread::{self, Threads};
@@ -33,89 +35,68 @@ const SAMPLES: u32 = 3;
 const LOOKS: u32 = 3_000;
 
 /// Runs the threads until the application has all samples, and prints the last status. The host has
-/// the sockets and the clock, and `rt` starts the threads.
-pub fn run<R: Threads + Wait + Sync>(rt: &R, host: &HostRuntime) -> Result<()> {
-    let mut parts = Parts::new(host)?;
+/// the sockets of the receiver, and its clock.
+pub fn run<R: Threads + Wait + Net + Clock + Print + Sync>(
+    rt: &R,
+    host: &HostRuntime,
+) -> Result<()> {
     // A board with the status of one reader, for one thread that looks at it.
     let mut board = StatusBoard::new(rt, host.alloc(), 1, 1)?;
-    let outcome = run_threads(rt, host, &mut parts, &mut board);
+    let outcome = run_threads(rt, host, host.alloc(), &mut board);
     board.end(rt);
     outcome
 }
 
-/// The peer, the receiver, and the application's end of the ring.
-#[derive(Drop)]
-struct Parts<'a> {
-    peer: Peer,
-    receiver: Receiver<'a>,
-    inlet: Inlet<Shape>,
-}
-
-impl<'a> Parts<'a> {
-    fn new(host: &'a HostRuntime) -> Result<Parts<'a>> {
-        let peer = Peer::bind(host)?;
-        let locator = peer.locator()?;
-        let (outlet, inlet) = outlet(host.alloc(), 64)?;
-        let receiver = Receiver::bind(host, outlet, locator)?;
-        Ok(Parts {
-            peer,
-            receiver,
-            inlet,
-        })
-    }
-}
-
-fn run_threads<R: Threads + Wait + Sync>(
+fn run_threads<R: Threads + Wait + Net + Clock + Print + Sync>(
     rt: &R,
     host: &HostRuntime,
-    parts: &mut Parts<'_>,
+    alloc: Global,
     board: &mut StatusBoard,
 ) -> Result<()> {
     let Some(watch) = board.reader() else {
         bail!("no place is free at the board");
     };
-    let Parts {
-        peer,
-        receiver,
-        inlet,
-    } = parts;
+    let (outlet, mut inlet) = outlet(alloc, 64)?;
+    let peer = Peer::bind(rt)?;
+    let mut receiver = Receiver::bind(host, outlet, peer.locator()?)?;
     let done = AtomicBool::new(false);
 
-    let receive = || receiver.run(rt, host.alloc(), board, &done);
-    let show = || show_samples(host, inlet);
+    let receive = || receiver.run(rt, alloc, board, &done);
+    let show = || show_samples(rt, alloc, &mut inlet);
     let send = || peer.send_squares();
-    let supervise = || look_until_presented(host, watch, &done);
+    let supervise = || look_until_presented(rt, watch, &done);
     // The first three run on threads of their own, and the last one on this thread.
     let (published, (shown, (sent, watch))) = thread::join(rt, receive, || {
         thread::join(rt, show, || thread::join(rt, send, supervise))
     });
+    let published = published?;
     sent?;
     shown?;
-    show_status(host, watch, published?)
+    show_status(rt, watch, published)
 }
 
 /// Prints the samples as they come.
-fn show_samples(host: &HostRuntime, inlet: &mut Inlet<Shape>) -> Result<()> {
+fn show_samples<R: Print + Clock>(rt: &R, alloc: Global, inlet: &mut Inlet<Shape>) -> Result<()> {
     // Keeps three samples of each square: all that the peer sends, however late they are pulled.
-    let mut squares = DataReader::new(host.alloc(), History::KeepLast(SAMPLES));
+    let mut squares = DataReader::new(alloc, History::KeepLast(SAMPLES));
     let mut shown = 0_u32;
     for _ in 0..LOOKS {
-        shown = shown.saturating_add(show_new(host, &mut squares, inlet)?);
+        shown = shown.saturating_add(show_new(rt, alloc, &mut squares, inlet)?);
         if shown >= SAMPLES {
             return Ok(());
         }
-        pause(host);
+        pause(rt);
     }
     bail!("only {shown} samples came")
 }
 
 /// Pulls what has come into the cache, and prints what is new there. Returns how many these are.
 fn show_new(
-    host: &HostRuntime,
+    rt: &impl Print,
+    alloc: Global,
     squares: &mut DataReader<Shape>,
     inlet: &mut Inlet<Shape>,
 ) -> Result<u32> {
-    let alloc = host.alloc();
     let unread = Condition {
         not_read: true,
         ..Condition::default()
@@ -123,7 +104,7 @@ fn show_new(
     squares.pull(alloc, inlet)?;
     let mut shown = 0_u32;
     for sample in &squares.take(alloc, 100, unread)? {
-        show_sample(host, sample)?;
+        show_sample(rt, sample)?;
         shown = shown.saturating_add(1);
     }
     Ok(shown)

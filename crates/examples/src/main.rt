@@ -12,9 +12,11 @@ mod own_type;
 
 use anyhow::Result;
 use std::env;
+use std::net::Net;
 use std::process::ExitCode;
 use std::sync::Wait;
 use std::thread::Threads;
+use std::time::Clock;
 
 /// What is said of words that name no application.
 const USAGE: &str = "examples: start it by one of: cache FILE, own_type FILE, live, \
@@ -27,8 +29,12 @@ fn main(rt: HostRuntime) -> Result<ExitCode> {
 }
 
 /// Runs what the words ask for, of which the first one is the program's name. The host has the
-/// files, the sockets and the clock, and `rt` starts threads and waits for them.
-fn run<R: Threads + Wait + Sync>(rt: &R, host: &HostRuntime, words: &[String]) -> Result<ExitCode> {
+/// files, and `rt` starts threads and waits for them.
+fn run<R: Threads + Wait + Net + Clock + Print + Sync>(
+    rt: &R,
+    host: &HostRuntime,
+    words: &[String],
+) -> Result<ExitCode> {
     let [_, word, files @ ..] = words else {
         return refuse(host);
     };
@@ -42,7 +48,7 @@ fn run<R: Threads + Wait + Sync>(rt: &R, host: &HostRuntime, words: &[String]) -
     Ok(ExitCode::SUCCESS)
 }
 
-fn run_all<R: Threads + Wait + Sync>(
+fn run_all<R: Threads + Wait + Net + Clock + Print + Sync>(
     rt: &R,
     host: &HostRuntime,
     squares: &str,
