@@ -1,6 +1,6 @@
 -- What the words of the command line ask for. The first one is the program's name; then come
 -- `dump FILE` or `explain FILE`, with `--own HEX` before or after the file, or nothing.
-use Rattle.std.specs.Prelude.{ℕ, List, [], ◌∷◌, Bool, true, false, not, ◌||◌, ◌==◌, if◌then◌else◌, Option, None, Some, codes}
+use Rattle.std.specs.Prelude.{ℕ, List, [], ◌∷◌, Bool, false, not, ◌||◌, ◌==◌, if◌then◌else◌, Option, None, Some, codes}
 use Rattle.std.specs.Str.{bytes_eq}
 use Rattle.rtps_dump.specs.declared.words.Command.{Command}
 use Rattle.rtps_dump.specs.declared.words.Command.TheVariants.{Dump, Explain}

@@ -1,6 +1,6 @@
 //! The words of the command line.
 
-ghost use Rattle.std.specs.Prelude.{◌≡◌, List, ℕ, map, option_map};
+ghost use Rattle.std.specs.Prelude.{◌≡◌, map, option_map};
 ghost use Rattle.rtps_dump.specs.Words.{asked, begins_with_dash, chosen, command_in, is_file, named};
 
 use std::convert::AsStr;
