@@ -30,7 +30,8 @@ pub trait DatagramText {
         octets: &[u8],
     ) -> Result<(), AllocError>
         requires { length octets.now ≤ 65507 }
-        ensures ok { OnOk result (out.new.items ≡ out.old.items ++ lines self.old index octets.now) }
+        ensures ok { OnOk result (out.new.items
+            ≡ out.old.items ++ lines self.old index octets.now) }
         ensures same { OnOk result (lines self.new ≡ lines self.old) }
         ensures ending { OnOk result ((rest : List (List ℕ))
             → ending self.new rest ≡ ending self.old (octets.now ∷ rest)) };

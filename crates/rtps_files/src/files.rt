@@ -64,7 +64,8 @@ pub fn dump_file<F: RecordFiles, W: Write>(
     writer: &mut W,
 ) -> Result<(), FileFault>
     ensures refused { RefusesFirst own.now result }
-    ensures prints { Prints (λ prefix. text_of (lines_of prefix)) own.now (F.holds files.now name.now)
+    ensures prints { Prints (λ prefix. text_of (lines_of prefix)) own.now
+        (F.holds files.now name.now)
         (W.contents writer.old) (W.contents writer.new) result }
 {
     let Ok(prefix) = own.parse::<GuidPrefix>() else {
