@@ -20,8 +20,10 @@ ONE_IN = 16
 
 def git(top, *words):
     """What git says of a repository, or nothing where it can't."""
-    done = subprocess.run(["git", *words], cwd=top, capture_output=True, text=True, check=False)
-    return "" if done.returncode else done.stdout
+    try:
+        return subprocess.run(["git", *words], cwd=top, capture_output=True, text=True, check=True).stdout
+    except (OSError, subprocess.CalledProcessError):
+        return ""
 
 
 def lines_of(text):
