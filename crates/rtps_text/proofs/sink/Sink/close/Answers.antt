@@ -13,14 +13,14 @@ close-requires-in-Caches-clause-empty g c κs within =
 
 pub returns-in_ok-print_last-in-Lines-clause-ok : goal.returns-in_ok-print_last-in-Lines-clause-ok
 returns-in_ok-print_last-in-Lines-clause-ok g c =
-    lines_finished g.C.Catalog.text_of g.C.Catalog.view g.C.Catalog.decoding c.args.self c.in-Lines.run' c.in-Lines.printer _ _ _ _ _ _ c.close-in-Lines.result c.in-Lines.is c.in_ok-print_last-in-Lines.ensures.ok c.close-in-Lines.ensures.ok
+    lines_finished g.C.Catalog.text_of g.C.Catalog.view g.C.Catalog.decoding c.args.self c.in-Lines.run' c.in-Lines.printer _ _ _ _ _ _ c.close.result c.in-Lines.is c.in_ok-print_last-in-Lines.ensures.ok c.close.ensures.ok
 
 pub returns-in_ok-print_last-in-Lines-clause-fault : goal.returns-in_ok-print_last-in-Lines-clause-fault
-returns-in_ok-print_last-in-Lines-clause-fault g c = closing_faults _ _ _ _ _ c.close-in-Lines.result c.close-in-Lines.ensures.fault
+returns-in_ok-print_last-in-Lines-clause-fault g c = closing_faults _ _ _ _ _ c.close.result c.close.ensures.fault
 
 pub returns-in_ok-print_last-in-Lines-clause-front : goal.returns-in_ok-print_last-in-Lines-clause-front
 returns-in_ok-print_last-in-Lines-clause-front g c =
-    lines_unclosed g.C.Catalog.text_of g.C.Catalog.view g.C.Catalog.decoding c.args.self c.in-Lines.run' c.in-Lines.printer _ _ _ _ _ _ _ c.close-in-Lines.result c.in-Lines.is c.in_ok-print_last-in-Lines.ensures.ok c.close-in-Lines.ensures.fault
+    lines_unclosed g.C.Catalog.text_of g.C.Catalog.view g.C.Catalog.decoding c.args.self c.in-Lines.run' c.in-Lines.printer _ _ _ _ _ _ _ c.close.result c.in-Lines.is c.in_ok-print_last-in-Lines.ensures.ok c.close.ensures.fault
 
 pub returns-in-Caches-clause-ok : goal.returns-in-Caches-clause-ok
 returns-in-Caches-clause-ok g c =
