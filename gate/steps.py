@@ -116,10 +116,13 @@ def prove(gate, crate, jobs):
             # Of a library that it finds built from the same text, rt says nothing. The look at its contracts has the verdict.
             why = verdicts.beyond(ran.text, gate.handles) if crate.is_program or "logic=" in ran.text else ""
             why = why or (verdicts.unmet(ran.text) if crate.is_program else "")
+            # What isn't proved leaves no library, but its work: what of it holds is not done again.
             if ran.status or why:
-                return failure(crate.name, f"{ran.text}{crate.name}: {why or 'not proved'}", ran.seconds)
+                shutil.rmtree(inside.out / "rlib", ignore_errors=True)
             gate.rooms.adopt(crate, inside)
         gate.kept.keep(crate)
+        if ran.status or why:
+            return failure(crate.name, f"{ran.text}{crate.name}: {why or 'not proved'}", ran.seconds)
         if not crate.is_program:
             gate.kept.note(library, built(), 1)
         count, seconds = verdicts.functions(ran.text), ran.seconds
