@@ -16,9 +16,9 @@ from gate.rooms import Rooms, only_run
 MOST_INPUT = 2 << 20
 """Octets of input that an answer that is not proved is given for: it is some 400 times slower than the program."""
 UNPROVED = """\
-run: this answer comes from a build that is not proved, made each time anew, in one minute to three; it comes at the
-run: end and has at most 1 MiB. ./run --prove proves and builds the program, in an hour or two on four processors; from
-run: then on ./run starts it at once."""
+run: this answer comes from a build that is not proved, made each time anew: half a minute or so for dump and explain,
+run: one to three minutes for all else. It comes at the end and has at most 1 MiB. ./run --prove proves and builds the
+run: program, in an hour or two on four processors; from then on ./run starts it at once."""
 AT_THE_END = "run: listen prints its lines at its end too: the program that ./run --prove builds prints each as it comes."
 SHOWN = (
     ("crates/rtps_listen/stdin", "dump crates/rtps_listen/stdin"),
