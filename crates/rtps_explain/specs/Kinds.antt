@@ -5,6 +5,7 @@ use Rattle.rtps_ascii.specs.Hex.{hex_text}
 -- the kinds that the standard names (9.4.5.1.1)
 unfoldable pub known_kind : ℕ → Option (List ℕ)
 known_kind id =
+    if id == 0x00 then Some (codes "header-extension") else
     if id == 0x01 then Some (codes "pad") else
     if id == 0x06 then Some (codes "acknack") else
     if id == 0x07 then Some (codes "heartbeat") else
@@ -29,12 +30,13 @@ abbrev pub kind_text : ℕ → List ℕ
 kind_text id = kind_or_id id (known_kind id)
 
 -- the letters of a kind's flags, from the lowest flag on: E for the byte order of every kind
--- (9.4.5.1.2), F and L of ACKNACK and HEARTBEAT, I of INFO_TS, M of INFO_REPLY and INFO_REPLY_IP4,
--- Q, D, K and N of DATA, and Q, K and N of DATA_FRAG (9.4.5.2 to 9.4.5.14)
+-- (9.4.5.1.2), F of ACKNACK, F, L and G of HEARTBEAT, G and F of GAP, I of INFO_TS, M of INFO_REPLY
+-- and INFO_REPLY_IP4, Q, D, K and N of DATA, and Q, K and N of DATA_FRAG (9.4.5.2 to 9.4.5.14)
 unfoldable pub letters_of : ℕ → List ℕ
 letters_of id =
     if id == 0x06 then codes "EF" else
-    if id == 0x07 then codes "EFL" else
+    if id == 0x07 then codes "EFLG" else
+    if id == 0x08 then codes "EGF" else
     if id == 0x09 then codes "EI" else
     if id == 0x0d then codes "EM" else
     if id == 0x0f then codes "EM" else
@@ -45,7 +47,8 @@ letters_of id =
 unfoldable pub unnamed_of : ℕ → ℕ
 unnamed_of id =
     if id == 0x06 then 0xfc else
-    if id == 0x07 then 0xf8 else
+    if id == 0x07 then 0xf0 else
+    if id == 0x08 then 0xf8 else
     if id == 0x09 then 0xfc else
     if id == 0x0d then 0xfc else
     if id == 0x0f then 0xfc else

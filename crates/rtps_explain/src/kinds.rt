@@ -14,6 +14,7 @@ fn known_kind(id: u8) -> Option<&'static str>
     ensures { option_map (λ word. word.now) result ≡ known_kind id }
 {
     Some(match id {
+        0x00 => "header-extension",
         0x01 => "pad",
         0x06 => "acknack",
         0x07 => "heartbeat",
@@ -57,7 +58,8 @@ pub(crate) fn letters_of(id: u8) -> &'static str
 {
     match id {
         0x06 => "EF",
-        0x07 => "EFL",
+        0x07 => "EFLG",
+        0x08 => "EGF",
         0x09 => "EI",
         0x0d => "EM",
         0x0f => "EM",
@@ -74,7 +76,8 @@ pub(crate) fn unnamed_of(id: u8) -> u8
 {
     match id {
         0x06 => 0xfc,
-        0x07 => 0xf8,
+        0x07 => 0xf0,
+        0x08 => 0xf8,
         0x09 => 0xfc,
         0x0d => 0xfc,
         0x0f => 0xfc,
