@@ -4,6 +4,7 @@
 
 mod board;
 mod history;
+pub mod laws;
 mod making;
 mod ring;
 mod row;
