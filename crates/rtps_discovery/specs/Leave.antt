@@ -1,4 +1,4 @@
--- The changes of our readers' matches when participants leave (DDSI-RTPS 8.5.3.3).
+-- The changes of our readers' matches when participants leave (DDSI-RTPS 8.5.5).
 use Rattle.std.specs.Prelude.{ℕ, ◌+◌, List, [], ◌∷◌, ◌++◌, Bool, not, filter, Option, Some, None, if◌then◌else◌}
 use Rattle.std.specs.List.{flat_map}
 use Rattle.rtps_types.specs.declared.identity.EntityId.{EntityId}

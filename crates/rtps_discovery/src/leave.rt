@@ -1,4 +1,4 @@
-//! Removing participants (DDSI-RTPS 8.5.3.3).
+//! Removing participants (DDSI-RTPS 8.5.5).
 
 ghost use Rattle.std.specs.Prelude.{◌≡◌, ◌≤◌, ◌<◌, ◌∷◌, ◌++◌, [], List, IfNone, IfOk, IfSome, OnOk, OnSome, filter, length, map, not, true};
 ghost use Rattle.std.specs.List.{flat_map};
