@@ -1,6 +1,6 @@
 //! A board whose ends are on one thread.
 
-use super::{jobs_of, lines, three};
+use super::{jobs_of, ranks, three};
 use crate::{Board, NoGate, SharedBatch, Stolen};
 use dds_topic::Shapes;
 use std::alloc::{AllocError, Global};
@@ -64,7 +64,7 @@ fn thieves_take_in_the_order_of_the_pushes(rt: HostRuntime) -> Result<(), Fail> 
 }
 
 #[test]
-fn a_thief_runs_the_one_job(rt: HostRuntime) -> Result<(), Fail> {
+fn a_thief_runs_all_jobs(rt: HostRuntime) -> Result<(), Fail> {
     let alloc = rt.alloc();
     let events = three(alloc)?;
     let batch = SharedBatch {
@@ -72,16 +72,15 @@ fn a_thief_runs_the_one_job(rt: HostRuntime) -> Result<(), Fail> {
         gate: &NoGate,
         events: &events,
     };
-    let (board, thieves) = Board::new(alloc, 1, 1)?;
+    let (board, thieves) = Board::new(alloc, 3, 1)?;
     let mut board = board;
-    for job in jobs_of::<Shapes>(alloc, 1)? {
+    for job in jobs_of::<Shapes>(alloc, 3)? {
         assert!(rt; board.push(job).is_ok());
     }
     for thief in thieves {
         let mut thief = thief;
-        let lines = lines(alloc, thief.work(alloc, &batch)?)?;
-        let expected = [(0, Some(1)), (0, Some(2)), (0, Some(3))];
-        assert!(rt; lines.as_slice() == expected.as_slice());
+        let results = thief.work(alloc, &batch)?;
+        assert!(rt; ranks(alloc, results)?.as_slice() == [0, 1, 2].as_slice());
         assert!(rt; matches!(thief.steal(), Stolen::Empty));
     }
     assert!(rt; board.pop().is_none());

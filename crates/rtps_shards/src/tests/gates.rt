@@ -179,3 +179,36 @@ fn one_worker_runs_all_other_jobs_while_one_is_held(rt: HostRuntime) -> Result<(
     assert!(rt; ranks(rt.alloc(), results)?.as_slice() == expected.as_slice());
     Ok(())
 }
+
+/// A gate that holds each job until its neighbour has entered: the first one and the second, the
+/// third and the fourth, and so on. It holds none longer than ten seconds.
+#[derive(Drop)]
+struct Pairing<'a, R> {
+    rt: &'a R,
+    entered: AtomicU64,
+    gave_up: AtomicBool,
+}
+
+impl<'a, R: Clock + Sync> Gate for Pairing<'a, R> {
+    fn enter(&self, _rank: u32) {
+        let before = self.entered.fetch_add(1, Ordering::SeqCst);
+        if !comes_to(self.rt, &self.entered, (before | 1).saturating_add(1)) {
+            self.gave_up.store(true, Ordering::SeqCst);
+        }
+    }
+
+    fn leave(&self, _rank: u32) {}
+}
+
+#[test]
+fn each_of_two_workers_goes_on_until_no_job_is_left(rt: HostRuntime) -> Result<(), Fail> {
+    let gate = Pairing {
+        rt: &rt,
+        entered: AtomicU64::new(0),
+        gave_up: AtomicBool::new(false),
+    };
+    let results = run(&rt, rt.alloc(), &Shapes, &gate, (8, 2))?;
+    assert_eq!(rt; results.len(), 8);
+    assert!(rt; !gate.gave_up.load(Ordering::SeqCst));
+    Ok(())
+}
