@@ -1,5 +1,5 @@
 -- What is printed of a file and of the datagrams of a domain.
-use Rattle.std.proofs.Common.{◌≡◌, List, ℕ, Bool, true, false, inl, inr, subst, sym, Option, None, Result, Ok, Err, IfErr, refl}
+use Rattle.std.proofs.Common.{◌≡◌, List, ℕ, Bool, true, false, inl, inr, subst, sym, Option, None, Some, Result, Ok, Err, IfErr, refl}
 use Rattle.std.specs.Prelude.{IsErrAnd}
 use Rattle.std.proofs.KnownBytes.{Keeps-refl}
 use Rattle.rtps_discovery.specs.declared.config.Config.{Config}
@@ -20,7 +20,8 @@ use Rattle.rtps_text.specs.declared.setup.Setup.{Setup}
 use Rattle.rtps_listen.specs.Addresses.{IsJoinCause}
 use Rattle.rtps_listen.specs.Configs.{IsCause, IsConfigOf}
 use Rattle.rtps_udp.specs.declared.binding.Binding.{Binding}
-use Rattle.rtps_listen.specs.Domain.{Hears, IsBefore, Joins, ListensBy, live_run_of}
+use Rattle.rtps_listen.specs.Domain.{Hears, IsBefore, IsQuiet, Joins, ListensBy, live_run_of}
+use Rattle.rtps_listen.specs.declared.domain.Station.{Station}
 use Rattle.rtps_listen.specs.Printed.{EndsBy, IsFirst, Prints, Writes, kept_text, run_text}
 use Rattle.rtps_listen.specs.Setup.{IsCacheSetupOf, IsLiveSetupOf, IsSetupOf, history_of}
 use Rattle.rtps_listen.specs.Status.{live_fault_of}
@@ -93,11 +94,11 @@ pub keeps_none : (o : Options) (holds : List ℕ → Option (List ℕ)) (old : O
 unfolding Prints
 keeps_none o holds old s fault is h = inl (ends IsFirst old s fault is h)
 
-pub hears_none : {N : Type 0} (joined : N → Binding → Type 0) (traffic : N → Option (List Traffic)) (o : Options) (before after : N) (old : Option (List ℕ))
-    (s : Result (Unit {0}) ListenFault) (fault : ListenFault)
-    → IsErrAnd s (λ e. e ≡ fault) → IsBefore fault → traffic after ≡ traffic before → Hears joined traffic o before after old old s
+pub hears_none : {H J : Type 0} (joins : H → Binding → H → J → Type 0) (traffic : J → Option (List Traffic)) (o : Options)
+    (before after : Station H J) (old : Option (List ℕ)) (s : Result (Unit {0}) ListenFault) (fault : ListenFault)
+    → IsErrAnd s (λ e. e ≡ fault) → IsBefore fault → after ≡ before → Hears joins traffic o before after old old s
 unfolding Hears
-hears_none joined traffic o before after old s fault is h quiet = inl (ends IsBefore old s fault is h, quiet)
+hears_none joins traffic o before after old s fault is h same = inl (ends IsBefore old s fault is h, same)
 
 -- all of the text was written, or what a fault leaves
 pub writes_all : (late : Bool) (text : List Record → List ℕ) (file all old new : Option (List ℕ)) → file ≡ all
@@ -176,17 +177,25 @@ asked_run o config catalog setup raw before after old new r same by h =
     (subst (λ n. Listened (live_run_of raw setup.run.config setup.run.summary) (limits_of n o.turns) r before after old new) by.datagrams
     (subst (λ n. Listened (live_run_of raw setup.run.config setup.run.summary) (limits_of setup.datagrams n) r before after old new) by.turns h))))
 
--- by joining alone nothing is called, so all calls are those of the run
-pub hears : {C N : Type 0} (o : Options) (config : Config) (catalog : C) (setup : LiveSetup C) (raw : Bool) (joined : N → Binding → Type 0)
-    (traffic : N → Option (List Traffic)) (before start after : N) (old new : Option (List ℕ)) (r : Result (Unit {0}) LiveFault)
-    (s : Result (Unit {0}) ListenFault) → IsConfigOf o config → o.raw ≡ raw → IsLiveSetupOf o config catalog setup
-    → Joins joined traffic o before → traffic start ≡ traffic before
-    → Listened (live_run_of raw setup.run.config setup.run.summary) (limits_of setup.datagrams setup.turns) r (traffic start) (traffic after) old new
-    → IsPassed r s → Hears joined traffic o before after old new s
+-- the run is that of the options, over the network that was joined
+pub hears : {C H J : Type 0} (o : Options) (config : Config) (catalog : C) (setup : LiveSetup C) (raw : Bool)
+    (joins : H → Binding → H → J → Type 0) (traffic : J → Option (List Traffic)) (before after : Station H J)
+    (network start last : J) (old new : Option (List ℕ)) (r : Result (Unit {0}) LiveFault) (s : Result (Unit {0}) ListenFault)
+    → IsConfigOf o config → o.raw ≡ raw → IsLiveSetupOf o config catalog setup
+    → Joins joins o before.host after.host network → IsQuiet (traffic network) → after.network ≡ Some last → start ≡ network
+    → Listened (live_run_of raw setup.run.config setup.run.summary) (limits_of setup.datagrams setup.turns) r (traffic start) (traffic last) old new
+    → IsPassed r s → Hears joins traffic o before after old new s
 unfolding Hears
-hears o config catalog setup raw joined traffic before start after old new r s is same by joins quiet h passed =
-    let made = live_run_of raw setup.run.config setup.run.summary in
-    let begun : Listened made (limits_of setup.datagrams setup.turns) r (traffic before) (traffic after) old new =
-    subst (λ b. Listened made (limits_of setup.datagrams setup.turns) r b (traffic after) old new) quiet h in
-    let asked = asked_run o config catalog setup raw (traffic before) (traffic after) old new r same by begun in
-    inr (config, is, joins, listens (live_run_of o.raw config o.summary) (limits_of o.count o.turns) (traffic before) (traffic after) old new r s asked passed)
+hears o config catalog setup raw joins traffic before after network start last old new r s is same by joined quiet is_last starts h passed =
+    let begun = subst (λ j. Listened (live_run_of raw setup.run.config setup.run.summary) (limits_of setup.datagrams setup.turns) r (traffic j) (traffic last) old new) starts h in
+    let asked = asked_run o config catalog setup raw (traffic network) (traffic last) old new r same by begun in
+    inr (record {
+      config = config;
+      is_config = is;
+      network = network;
+      joined = joined;
+      quiet = quiet;
+      last = last;
+      is_last = is_last;
+      listens = listens (live_run_of o.raw config o.summary) (limits_of o.count o.turns) (traffic network) (traffic last) old new r s asked passed;
+    })

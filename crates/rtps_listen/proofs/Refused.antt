@@ -1,5 +1,5 @@
 -- What is refused before a file is opened or a domain is joined.
-use Rattle.std.proofs.Common.{◌≡◌, ◌⊎◌, List, ℕ, ◌∙◌, ap, inl, inr, refl, subst, sym, Result, Ok, Err, IfErr}
+use Rattle.std.proofs.Common.{◌≡◌, ◌⊎◌, ◌∙◌, ap, inl, inr, refl, subst, sym, Result, Ok, Err, IfErr}
 use Rattle.std.specs.Prelude.{IsErrAnd}
 use Rattle.rtps_records.specs.declared.fault.RunFault.TheVariants.{NoMemory}
 use Rattle.rtps_listen.specs.Addresses.{IsAddressText, IsJoinCause, IsLiveCause}

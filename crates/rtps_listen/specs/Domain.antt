@@ -1,5 +1,5 @@
 -- What is written of the datagrams of a domain, and what is called at the network.
-use Rattle.std.specs.Prelude.{◌≡◌, ℕ, List, Bool, true, false, Option, ◌⊎◌, Result, Ok, Err}
+use Rattle.std.specs.Prelude.{◌≡◌, ℕ, List, [], ⊤, Bool, true, false, Option, None, Some, ◌⊎◌, Result, Ok, Err}
 use Rattle.dds_topic.specs.RawMeaning.{raw_decoding}
 use Rattle.dds_topic.specs.ShapeMeaning.{shape_decoding, shape_text}
 use Rattle.rtps_ascii.specs.Hex.{hex_text}
@@ -14,6 +14,7 @@ use Rattle.rtps_listen.specs.Configs.{IsConfigOf}
 use Rattle.rtps_listen.specs.Printed.{EndsBy}
 use Rattle.rtps_listen.specs.declared.fault.ListenFault.{ListenFault}
 use Rattle.rtps_listen.specs.declared.fault.ListenFault.TheVariants.{Run, Socket}
+use Rattle.rtps_listen.specs.declared.domain.Station.{Station}
 use Rattle.rtps_listen.specs.declared.options.Options.{Options}
 
 -- the run that readers make, whose samples are shapes of the Shapes demo, or with `--raw` octets
@@ -21,16 +22,16 @@ abbrev pub live_run_of : Bool → Config → Bool → LiveRun
 live_run_of true config summary = live_run (λ v. hex_text v.body) raw_decoding config summary
 live_run_of false config summary = live_run shape_text shape_decoding config summary
 
--- Before the run called it, the network was joined: it took part in the domain that options name, at
--- the address that they name. `joined` tells by which bindings a network takes part in a domain, and
--- `traffic` which calls there were to it so far.
-pub record Joins {N : Type 0} (joined : N → Binding → Type 0)
-    (traffic : N → Option (List Traffic)) (options : Options) (before : N) : Type 0 where
-  pub network : N
-  pub binding : Binding
-  pub asked : IsBindingOf options binding
-  pub is_joined : joined network binding
-  pub quiet : traffic network ≡ traffic before
+-- no call of a network is known to have had an effect
+abbrev pub IsQuiet : Option (List Traffic) → Type 0
+IsQuiet None = ⊤
+IsQuiet (Some calls) = calls ≡ []
+
+-- A host took part in the domain that options name, at the address that they name, and this is the
+-- network. `joins` tells what a host becomes by this, and by which networks.
+abbrev pub Joins : {H J : Type 0} → (H → Binding → H → J → Type 0) → Options → H → H → J → Type 0
+Joins joins options before after network =
+    (binding : Binding) × IsBindingOf options binding × joins before binding after network
 
 -- a fault that is found before a domain is joined: the only fault of a run is want of memory
 abbrev pub IsBefore : ListenFault → Type 0
@@ -49,13 +50,26 @@ ListensBy made limits before after old new (Err (Run fault)) =
     Listened made limits (Err (live_fault.Run fault)) before after old new
 ListensBy made limits before after old new (Err fault) = ⊥
 
--- What `listen` does with a network. Nothing is called there and nothing is written if the options
--- are refused, the domain can't be joined, or memory runs out before. Else it runs over the network
--- that it joined, and all calls there are the run's.
-unfoldable pub Hears : {N : Type 0} → (N → Binding → Type 0) → (N → Option (List Traffic))
-    → Options → N → N → Option (List ℕ) → Option (List ℕ) → Result (Unit {0}) ListenFault → Type 0
-Hears joined traffic options before after old new result =
-    (EndsBy IsBefore old new result × (traffic after ≡ traffic before))
-    ⊎ ((config : Config) × IsConfigOf options config × Joins joined traffic options before
-    × ListensBy (live_run_of options.raw config options.summary)
-    (limits_of options.count options.turns) (traffic before) (traffic after) old new result)
+-- A run over the network that the host joined, for which nothing had been called there: all calls
+-- there are the run's. `traffic` tells which calls there were to a network so far.
+pub record HearsAll {H J : Type 0} (joins : H → Binding → H → J → Type 0)
+    (traffic : J → Option (List Traffic)) (options : Options) (before after : Station H J)
+    (old new : Option (List ℕ)) (result : Result (Unit {0}) ListenFault) : Type 0 where
+  pub config : Config
+  pub is_config : IsConfigOf options config
+  pub network : J
+  pub joined : Joins joins options before.host after.host network
+  pub quiet : IsQuiet (traffic network)
+  pub last : J
+  pub is_last : after.network ≡ Some last
+  pub listens : ListensBy (live_run_of options.raw config options.summary)
+      (limits_of options.count options.turns) (traffic network) (traffic last) old new result
+
+-- What `listen` does. Nothing is joined and nothing is written if the options are refused, the
+-- domain can't be joined, or memory runs out before. Else it runs over the network that it joined.
+unfoldable pub Hears : {H J : Type 0} → (H → Binding → H → J → Type 0)
+    → (J → Option (List Traffic)) → Options → Station H J → Station H J
+    → Option (List ℕ) → Option (List ℕ) → Result (Unit {0}) ListenFault → Type 0
+Hears joins traffic options before after old new result =
+    (EndsBy IsBefore old new result × (after ≡ before))
+    ⊎ HearsAll joins traffic options before after old new result

@@ -37,10 +37,11 @@ status_of (Run TooManyRecords) = 3
 status_of (Run CannotWrite) = 3
 status_of (Run NoMemory) = 5
 
--- a bad line has the command line's own text
-abbrev pub status_after : Failure → ℕ
-status_after (Line error) = 2
-status_after (Fault fault) = status_of fault
+-- 0 where all went well; a bad line has the command line's own text
+abbrev pub status_after : Result (Unit {0}) Failure → ℕ
+status_after (Ok u) = 0
+status_after (Err (Line error)) = 2
+status_after (Err (Fault fault)) = status_of fault
 
 -- the text in the line of a fault
 abbrev pub fault_text : ListenFault → List ℕ

@@ -1,8 +1,8 @@
 //! What is printed of the datagrams of a domain.
 
-ghost use Rattle.std.specs.Prelude.{◌≡◌, IfErr, OnOk};
+ghost use Rattle.std.specs.Prelude.{◌≡◌, IfErr, IfOk, OnErr};
 ghost use Rattle.rtps_listen.specs.Addresses.{IsAddressText, IsJoinCause};
-ghost use Rattle.rtps_listen.specs.Domain.{Hears, Joins};
+ghost use Rattle.rtps_listen.specs.Domain.{Hears, IsQuiet, Joins};
 ghost use Rattle.rtps_listen.specs.Request.{RefusesFirst};
 ghost use Rattle.rtps_listen.specs.declared.request.Request.TheVariants.{Listen};
 ghost use Rattle.rtps_udp.specs.declared.binding.Binding.{Binding};
@@ -20,31 +20,44 @@ use std::io::Write;
 use std::net::Ipv4Addr;
 use std::thread::Threads;
 
-/// A network, which exchanges the datagrams of a domain once it is joined.
-pub trait Network: Exchange {
-    ghost joined: { Self → Binding → Type 0 };
+/// A host that can take part in domains.
+pub trait Network {
+    /// A network that exchanges the datagrams of a domain.
+    type Joined: Exchange + Drop;
+
+    ghost joins: { Self → Binding → Self → Self.Joined → Type 0 };
 
     /// Takes part in a domain, as its first participant, at an address of this machine. By this
-    /// alone nothing is received or sent.
-    fn join(&mut self, alloc: Global, binding: Binding) -> Result<(), SocketFault>
-        ensures joined { OnOk result (joined self.new binding) }
-        ensures quiet { Self.traffic self.new ≡ Self.traffic self.old };
+    /// alone nothing is received or sent. At a fault the host is unchanged.
+    fn join(&mut self, alloc: Global, binding: Binding) -> Result<Self::Joined, SocketFault>
+        ensures joined { IfOk result (λ network. joins self.old binding self.new network) }
+        ensures quiet { IfOk result (λ network. IsQuiet (Self.Joined.traffic network)) }
+        ensures same { OnErr result (self.new ≡ self.old) };
+}
+
+/// A host, with the network that it has joined last.
+#[derive(Drop)]
+pub struct Station<H, J> {
+    pub host: H,
+    pub network: Option<J>,
 }
 
 /// Takes part in the domain that options name, at the address that they name. No datagram is
-/// received or sent by this.
+/// received or sent by this. At a fault the host is unchanged.
 ///
 /// `BadAddress` if `--address` isn't an IPv4 address in dotted notation, and `Socket` if there are
 /// no sockets for the domain at the address.
-fn join<N: Network>(
+fn join<H: Network>(
     alloc: Global,
-    network: &mut N,
+    host: &mut H,
     options: &Options<'_>,
-) -> Result<(), ListenFault>
-    ensures joins { OnOk result (Joins N.joined N.traffic options.now network.old) }
-    ensures address { OnOk result (IsAddressText options.now.address.now) }
+) -> Result<H::Joined, ListenFault>
+    ensures joins { IfOk result (λ network.
+        Joins H.joins options.now host.old host.new network) }
+    ensures quiet { IfOk result (λ network. IsQuiet (H.Joined.traffic network)) }
+    ensures address { IfOk result (λ network. IsAddressText options.now.address.now) }
     ensures fault { IfErr result (IsJoinCause options.now) }
-    ensures quiet { N.traffic network.new ≡ N.traffic network.old }
+    ensures same { OnErr result (host.new ≡ host.old) }
 {
     let Ok(address) = options.address.parse::<Ipv4Addr>() else {
         return Err(ListenFault::BadAddress);
@@ -53,8 +66,8 @@ fn join<N: Network>(
         domain: options.domain,
         address,
     };
-    match network.join(alloc, binding) {
-        Ok(()) => Ok(()),
+    match host.join(alloc, binding) {
+        Ok(network) => Ok(network),
         Err(_) => Err(ListenFault::Socket),
     }
 }
@@ -65,19 +78,20 @@ fn join<N: Network>(
 /// What is wrong with the options is refused before the domain is joined: `BadPrefix`, `BadWriter`
 /// and `BadAddress` in this order. `Socket` if it can't be joined, or if no datagram can be waited
 /// for or received any more. Any other fault is that of the run.
-pub fn listen_in<N: Network, W: Write, T: Threads + Sync>(
+pub fn listen_in<H: Network, W: Write, T: Threads + Sync>(
     rt: &T,
     alloc: Global,
-    network: &mut N,
+    station: &mut Station<H, H::Joined>,
     options: &Options<'_>,
     writer: &mut W,
 ) -> Result<(), ListenFault>
     ensures refused { RefusesFirst (Listen options.now) result }
-    ensures hears { Hears N.joined N.traffic options.now network.old network.new
+    ensures hears { Hears H.joins H.Joined.traffic options.now station.old station.new
         (W.contents writer.old) (W.contents writer.new) result }
 {
     let config = config_of(alloc, options)?;
-    join(alloc, network, options)?;
+    let network = join(alloc, &mut station.host, options)?;
+    let network = station.network.insert(network);
     if options.raw {
         let setup = live_setup_of(options, config, Raw);
         return Ok(listen(rt, alloc, setup, network, writer)?);

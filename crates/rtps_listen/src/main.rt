@@ -2,11 +2,10 @@
 //! datagrams of a domain.
 #![tactic(auto)]
 
-ghost use Rattle.std.specs.Prelude.{◌≡◌, IfSome, None, OnOk};
+ghost use Rattle.std.specs.Prelude.{◌≡◌, None, OnOk};
 ghost use Rattle.std.specs.Io.KnownBytes.{Appends};
 ghost use Rattle.std.specs.Process.{exit_status};
 ghost use Rattle.rtps_listen.specs.Status.{fault_line, status_after};
-ghost use Rattle.rtps_udp.specs.Bound.{bound_address};
 
 mod config;
 mod domain;
@@ -18,16 +17,15 @@ mod request;
 mod setup;
 mod words;
 
-use domain::Network;
+use domain::{Network, Station};
 use fault::ListenFault;
 use program::{Failure, run};
 use rtps_files::RecordFiles;
-use rtps_records::{Exchange, Receive, RunFault};
-use rtps_types::Locator;
-use rtps_udp::{Binding, SocketFault, Sockets};
+use rtps_records::RunFault;
+use rtps_udp::{Binding, Machine, SocketFault, Sockets};
 use std::alloc::Global;
 use std::fs::File;
-use std::io::{self, ErrorKind, Read, Stdin, Write};
+use std::io::{self, Read, Stdin, Write};
 use std::process::ExitCode;
 use std::thread::Threads;
 
@@ -36,10 +34,8 @@ const LARGE: usize = 16 << 20;
 
 fn main(rt: HostRuntime) -> ExitCode {
     keep_freed_memory(rt.alloc());
-    match run_line(&rt, &rt) {
-        Ok(()) => ExitCode::SUCCESS,
-        Err(failure) => report(&rt, failure),
-    }
+    let outcome = run_line(&rt, &rt);
+    report(&rt, outcome)
 }
 
 /// Allocates a large block, and frees it untouched. Once the allocator of the C library has freed
@@ -55,11 +51,14 @@ fn run_line<T: Threads + Sync>(rt: &HostRuntime, threads: &T) -> Result<(), Fail
         Ok(words) => words,
         Err(fault) => return Err(Failure::Fault(fault)),
     };
-    let mut host = Host { rt, sockets: None };
+    let mut station = Station {
+        host: Host { rt },
+        network: None,
+    };
     run(
         threads,
         rt.alloc(),
-        &mut host,
+        &mut station,
         words.as_slice(),
         &mut rt.stdout(),
     )
@@ -84,8 +83,6 @@ fn words_given(rt: &HostRuntime) -> Result<Vec<String>, ListenFault> {
 #[derive(Drop)]
 struct Host<'a> {
     rt: &'a HostRuntime,
-    /// The sockets of the domain that was joined.
-    sockets: Option<Sockets<'a, HostRuntime>>,
 }
 
 /// A file of this machine, or its standard input.
@@ -108,51 +105,13 @@ impl RecordFiles for Host<'_> {
     }
 }
 
-impl Receive for Host<'_> {
-    ghost traffic = { λ _. None };
+impl<'a> Network for Host<'a> {
+    type Joined = Sockets<Machine<'a, HostRuntime, HostRuntime>>;
 
-    fn receive(&mut self, room: &mut [u8]) -> io::Result<Option<usize>> {
-        match &mut self.sockets {
-            Some(sockets) => sockets.receive(room),
-            None => Err(not_joined()),
-        }
-    }
-}
+    ghost joins = { λ _ binding _ sockets. sockets.binding ≡ binding };
 
-impl Exchange for Host<'_> {
-    fn wait(&mut self) -> io::Result<()> {
-        match &mut self.sockets {
-            Some(sockets) => sockets.wait(),
-            None => Err(not_joined()),
-        }
-    }
-
-    fn moment(&mut self) -> u64 {
-        match &mut self.sockets {
-            Some(sockets) => sockets.moment(),
-            None => 0,
-        }
-    }
-
-    fn send(&mut self, to: Locator, octets: &[u8]) {
-        if let Some(sockets) = &mut self.sockets {
-            sockets.send(to, octets);
-        }
-    }
-}
-
-/// The fault of a network that takes part in no domain.
-fn not_joined() -> io::Error {
-    io::Error::from(ErrorKind::NotConnected)
-}
-
-impl Network for Host<'_> {
-    ghost joined = { λ host binding.
-        IfSome host.sockets (λ sockets. bound_address sockets ≡ binding.address) };
-
-    fn join(&mut self, alloc: Global, binding: Binding) -> Result<(), SocketFault> {
-        self.sockets = Some(Sockets::bind_at(self.rt, self.rt, alloc, binding)?);
-        Ok(())
+    fn join(&mut self, alloc: Global, binding: Binding) -> Result<Self::Joined, SocketFault> {
+        Sockets::bind_at(self.rt, self.rt, alloc, binding)
     }
 }
 
@@ -165,16 +124,18 @@ impl Read for HostFile {
     }
 }
 
-/// Writes the line of a failure to standard error, and returns the exit status of the program.
-fn report(rt: &HostRuntime, failure: Failure) -> ExitCode
-    ensures { exit_status result ≡ status_after failure }
+/// Writes the line of a failure, if there is one, to standard error, and returns the exit status of
+/// the program.
+fn report(rt: &HostRuntime, outcome: Result<(), Failure>) -> ExitCode
+    ensures { exit_status result ≡ status_after outcome }
 {
-    match failure {
-        Failure::Line(error) => {
+    match outcome {
+        Ok(()) => ExitCode::SUCCESS,
+        Err(Failure::Line(error)) => {
             let _ = eprint!(rt; "{error}");
             ExitCode::from(2)
         }
-        Failure::Fault(fault) => {
+        Err(Failure::Fault(fault)) => {
             let _ = write_line(&mut rt.stderr(), fault);
             ExitCode::from(fault.status())
         }

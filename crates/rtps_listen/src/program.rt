@@ -3,7 +3,7 @@
 ghost use Rattle.std.specs.Prelude.{map};
 ghost use Rattle.rtps_listen.specs.Program.{Does, Leaves};
 
-use crate::domain::{Network, listen_in};
+use crate::domain::{Network, Station, listen_in};
 use crate::fault::ListenFault;
 use crate::files::{dump_file, explain_file, replay_file, samples_file};
 use crate::request::Request;
@@ -25,8 +25,8 @@ pub enum Failure {
     Fault(ListenFault),
 }
 
-/// Does what the words ask for, with the files and the network of a host. The first word is the
-/// program's name; `rt` starts the workers.
+/// Does what the words ask for, with the files and the network of a station's host. The first word
+/// is the program's name; `rt` starts the workers.
 ///
 /// A bad line is a [`Failure::Line`], and then nothing is opened, joined or written. Any other
 /// failure is the fault of what was asked for, or `NoMemory`. Only `listen` calls the network.
@@ -34,12 +34,13 @@ pub enum Failure {
 pub fn run<H: RecordFiles + Network, S: AsStr, W: Write + Send, T: Threads + Sync>(
     rt: &T,
     alloc: Global,
-    host: &mut H,
+    station: &mut Station<H, H::Joined>,
     words: &[S],
     writer: &mut W,
 ) -> Result<(), Failure>
-    ensures { Leaves (map S.text words.entry.now) (H.holds host.old) H.joined H.traffic
-        host.old host.new (W.contents writer.old) (W.contents writer.new) result }
+    ensures { Leaves (map S.text words.entry.now) (H.holds station.old.host)
+        H.joins H.Joined.traffic station.old station.new
+        (W.contents writer.old) (W.contents writer.new) result }
 {
     let request = match read_words(alloc, words) {
         Ok(request) => request,
@@ -48,7 +49,7 @@ pub fn run<H: RecordFiles + Network, S: AsStr, W: Write + Send, T: Threads + Syn
         }
         Err(error) => return Err(Failure::Line(error)),
     };
-    match perform(rt, alloc, host, &request, writer) {
+    match perform(rt, alloc, station, &request, writer) {
         Ok(()) => Ok(()),
         Err(fault) => Err(Failure::Fault(fault)),
     }
@@ -59,18 +60,18 @@ pub fn run<H: RecordFiles + Network, S: AsStr, W: Write + Send, T: Threads + Syn
 fn perform<H: RecordFiles + Network, W: Write + Send, T: Threads + Sync>(
     rt: &T,
     alloc: Global,
-    host: &mut H,
+    station: &mut Station<H, H::Joined>,
     request: &Request<'_>,
     writer: &mut W,
 ) -> Result<(), ListenFault>
-    ensures { Does request.now (H.holds host.old) H.joined H.traffic
-        host.old host.new (W.contents writer.old) (W.contents writer.new) result }
+    ensures { Does request.now (H.holds station.old.host) H.joins H.Joined.traffic
+        station.old station.new (W.contents writer.old) (W.contents writer.new) result }
 {
     match request {
-        Request::Dump(options) => dump_file(alloc, host, options, writer),
-        Request::Explain(options) => explain_file(alloc, host, options, writer),
-        Request::Replay(options) => replay_file(rt, alloc, host, options, writer),
-        Request::Samples(options) => samples_file(rt, alloc, host, options, writer),
-        Request::Listen(options) => listen_in(rt, alloc, host, options, writer),
+        Request::Dump(options) => dump_file(alloc, &station.host, options, writer),
+        Request::Explain(options) => explain_file(alloc, &station.host, options, writer),
+        Request::Replay(options) => replay_file(rt, alloc, &station.host, options, writer),
+        Request::Samples(options) => samples_file(rt, alloc, &station.host, options, writer),
+        Request::Listen(options) => listen_in(rt, alloc, station, options, writer),
     }
 }

@@ -1,7 +1,7 @@
 -- The receiving of a batch, one datagram after the other.
 use Rattle.std.proofs.Common.{◌≡◌, ℕ, ◌+◌, List, [], ◌∷◌, ◌++◌, Option, None, Some, refl, length, map, subst, sym, ap, ◌∙◌, length-append, append-nil, append_assoc}
 use Rattle.rtps_records.specs.RecordFile.{Datagram, Record}
-use Rattle.rtps_records.specs.Traffic.{Traffic, Grows, Received, ReceivesAll, ReceivesNext, last_call, receipts}
+use Rattle.rtps_records.specs.Traffic.{Exhausted, Failed, Grows, Passed, Received, ReceivesAll, ReceivesNext, Sent, Traffic, Waited, last_call, receipts, received_in}
 use Rattle.rtps_records.specs.declared.receive_end.ReceiveEnd.{ReceiveEnd}
 use Rattle.rtps_records.specs.declared.receive_end.ReceiveEnd.TheVariants.{Drained, Fault, More}
 
@@ -19,6 +19,23 @@ Grows-trans (Some x) (Some y) (Some z) xs ys p q = q ∙ ap (λ l. l ++ ys) p �
 pub receipts-append : (xs ys : List (List ℕ)) → receipts (xs ++ ys) ≡ receipts xs ++ receipts ys
 receipts-append [] ys = refl
 receipts-append (x ∷ xs) ys = ap (λ l. Received x ∷ l) (receipts-append xs ys)
+
+-- what was received by some calls and then by others
+pub received-append : (xs ys : List Traffic)
+    → received_in (xs ++ ys) ≡ received_in xs ++ received_in ys
+received-append [] ys = refl
+received-append (Waited ∷ xs) ys = received-append xs ys
+received-append (Passed m ∷ xs) ys = received-append xs ys
+received-append (Received o ∷ xs) ys = ap (λ l. o ∷ l) (received-append xs ys)
+received-append (Exhausted ∷ xs) ys = received-append xs ys
+received-append (Failed ∷ xs) ys = received-append xs ys
+received-append (Sent to o ∷ xs) ys = received-append xs ys
+
+-- what is received is received, and nothing by what follows
+pub received-receipts : (octets : List (List ℕ)) (last : List Traffic) → received_in last ≡ []
+    → received_in (receipts octets ++ last) ≡ octets
+received-receipts [] last none = none
+received-receipts (x ∷ xs) last none = ap (λ l. x ∷ l) (received-receipts xs last none)
 
 datagrams-append : (moment : ℕ) (xs ys : List (List ℕ)) → map (Datagram moment) (xs ++ ys) ≡ map (Datagram moment) xs ++ map (Datagram moment) ys
 datagrams-append moment [] ys = refl

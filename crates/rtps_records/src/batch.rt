@@ -18,8 +18,7 @@ pub(crate) const ROOM: usize = 1_048_576;
 /// ```text
 /// let mut batch = Batch::new(alloc)?;
 /// // Again and again, with the same batch:
-/// network.wait()?;
-/// let moment = network.moment();
+/// let moment = network.wait()?;
 /// if batch.receive(&mut network, moment, 256)? == ReceiveEnd::Fault {
 ///     bail!("no datagram can be received");
 /// }

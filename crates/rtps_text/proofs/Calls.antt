@@ -6,7 +6,7 @@ use Rattle.rtps_records.specs.RecordFile.{Datagram, Record, Tick}
 use Rattle.rtps_records.specs.Traffic.{Exhausted, Failed, Grows, Passed, Received, Sent, Traffic, Waited, failures_in, heard_after, heard_in, last_call, moment_after, receipts, received_in, sent_in, waits_in}
 use Rattle.rtps_records.specs.declared.receive_end.ReceiveEnd.{ReceiveEnd}
 use Rattle.rtps_records.specs.declared.receive_end.ReceiveEnd.TheVariants.{Drained, Fault, More}
-use Rattle.rtps_records.proofs.Received.{Grows-nil, Grows-trans}
+use Rattle.rtps_records.proofs.Received.{Grows-nil, Grows-trans, received-append}
 use Rattle.rtps_text.specs.Listened.{IsDrained, ReadsClock, WaitsInTurn}
 use Rattle.rtps_text.specs.Live.{IsLast}
 use Rattle.rtps_text.specs.Sending.{Sends, sendings}
@@ -31,15 +31,10 @@ moment-append m (Exhausted ∷ xs) ys = moment-append m xs ys
 moment-append m (Failed ∷ xs) ys = moment-append m xs ys
 moment-append m (Sent to o ∷ xs) ys = moment-append m xs ys
 
-received-append : (xs ys : List Traffic)
+received-count : (xs ys : List Traffic)
     → length (received_in (xs ++ ys)) ≡ length (received_in xs) + length (received_in ys)
-received-append [] ys = omega arith
-received-append (Waited ∷ xs) ys = received-append xs ys
-received-append (Passed m ∷ xs) ys = received-append xs ys
-received-append (Received o ∷ xs) ys = omega (arith, received-append xs ys)
-received-append (Exhausted ∷ xs) ys = received-append xs ys
-received-append (Failed ∷ xs) ys = received-append xs ys
-received-append (Sent to o ∷ xs) ys = received-append xs ys
+received-count xs ys =
+    ap length (received-append xs ys) ∙ length-append (received_in xs) (received_in ys)
 
 sent-append : (xs ys : List Traffic) → sent_in (xs ++ ys) ≡ sent_in xs ++ sent_in ys
 sent-append [] ys = refl
@@ -88,7 +83,7 @@ comes_both m n o xs ys r s c d t u v w f g a b = record {
   heard = heard-append m xs ys ∙ ap (λ l. l ++ heard_after (moment_after m xs) ys) a.heard
       ∙ ap (λ k. r ++ heard_after k ys) a.at ∙ ap (λ l. r ++ l) b.heard;
   at = moment-append m xs ys ∙ ap (λ k. moment_after k ys) a.at ∙ b.at;
-  received = omega (arith, received-append xs ys, a.received, b.received);
+  received = omega (arith, received-count xs ys, a.received, b.received);
   sent = sent-append xs ys ∙ ap (λ l. l ++ sent_in ys) a.sent ∙ ap (λ l. t ++ l) b.sent;
   waits = omega (arith, waits-append xs ys, a.waits, b.waits);
   failures = omega (arith, failures-append xs ys, a.failures, b.failures);

@@ -6,6 +6,7 @@ pub mod Listened
 pub mod Live
 pub mod Replayed
 pub mod Sending
+pub mod Setup
 pub mod Sink
 pub mod Slices
 pub mod Taken

@@ -5,7 +5,7 @@ use Rattle.rtps_types.specs.declared.locator.Locator.{Locator}
 use Rattle.rtps_records.specs.RecordFile.{Record}
 use Rattle.rtps_records.specs.Runs.{PutsFront}
 use Rattle.rtps_records.specs.Text.{IsFront}
-use Rattle.rtps_records.specs.Traffic.{Grows, Traffic, Waited, failures_in, heard_in, last_call, moment_after, received_in, sent_in, waits_in}
+use Rattle.rtps_records.specs.Traffic.{Grows, Passed, Traffic, Waited, failures_in, heard_in, last_call, moment_after, received_in, sent_in, waits_in}
 use Rattle.rtps_records.specs.declared.fault.RunFault.{RunFault}
 use Rattle.rtps_records.specs.declared.fault.RunFault.TheVariants.{CannotWrite, NoMemory}
 use Rattle.rtps_records.specs.declared.receive_end.ReceiveEnd.{ReceiveEnd}
@@ -113,14 +113,14 @@ GoesOn text decoding before after then now old new end =
     → Listens text decoding first now origin new most after.left waits after.moment end
     after.run.participant.engine
 
--- a run that had received all datagrams that came waited once more; the clock was read, its moment
--- was processed as a tick, and its lines were written
-abbrev pub PassesOn : {C V U M : Type 0} → (C → M → List ℕ) → (C → Decoding M)
+-- a run that had received all datagrams that came waited once more, up to this moment; it was
+-- processed as a tick, and its lines were written
+abbrev pub PassesOn : {C V U M : Type 0} → (C → M → List ℕ) → (C → Decoding M) → ℕ
     → Live C V U → Live C V U → Option (List Traffic) → Option (List Traffic)
     → Option (List ℕ) → Option (List ℕ) → Type 0
-PassesOn text decoding before after then now old new =
+PassesOn text decoding moment before after then now old new =
     (first start : Option (List Traffic)) (origin : Option (List ℕ)) (most waits : ℕ)
-    → Grows start then (Waited ∷ [])
+    → Grows start then (Waited ∷ Passed moment ∷ [])
     → Listens text decoding first start origin old most before.left waits before.moment Drained
     before.run.participant.engine
     → Listens text decoding first now origin new most after.left (waits + 1) after.moment More
@@ -151,13 +151,14 @@ StopsShort text decoding before fault then now old new =
     → Stopped (live_by text decoding before.run.participant.engine before.run.summary)
     most waits fault first now origin new
 
--- a run that had received all datagrams that came waited once more, and stopped at this fault
-abbrev pub PassStops : {C V U M : Type 0} → (C → M → List ℕ) → (C → Decoding M)
+-- a run that had received all datagrams that came waited once more, up to this moment, and stopped
+-- at this fault
+abbrev pub PassStops : {C V U M : Type 0} → (C → M → List ℕ) → (C → Decoding M) → ℕ
     → Live C V U → RunFault → Option (List Traffic) → Option (List Traffic)
     → Option (List ℕ) → Option (List ℕ) → Type 0
-PassStops text decoding before fault then now old new =
+PassStops text decoding moment before fault then now old new =
     (first start : Option (List Traffic)) (origin : Option (List ℕ)) (most waits : ℕ)
-    → Grows start then (Waited ∷ [])
+    → Grows start then (Waited ∷ Passed moment ∷ [])
     → Listens text decoding first start origin old most before.left waits before.moment Drained
     before.run.participant.engine
     → Stopped (live_by text decoding before.run.participant.engine before.run.summary)

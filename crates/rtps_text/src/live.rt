@@ -1,6 +1,6 @@
 //! A run over datagrams as they are received, a batch at a time.
 
-ghost use Rattle.std.specs.Prelude.{◌≡◌, ◌<◌, ◌≤◌, [], IfErr, IfOk, OnOk, length};
+ghost use Rattle.std.specs.Prelude.{◌≡◌, ◌<◌, ◌≤◌, [], IfErr, IfOk, OnOk, length, min};
 ghost use Rattle.rtps_records.specs.Batches.{records_in};
 ghost use Rattle.rtps_records.specs.declared.receive_end.ReceiveEnd.TheVariants.{More};
 ghost use Rattle.dds_participant.specs.Ports.{NoneAttached};
@@ -70,6 +70,7 @@ where
         ensures some { 1 ≤ result }
         ensures few { result ≤ 4096 }
         ensures left { result ≤ self.now.left }
+        ensures value { result ≡ min self.now.left self.now.run.pace.batch }
     {
         if self.left < u32::from(self.run.pace.batch) {
             self.left as u16
@@ -116,13 +117,14 @@ where
         Ok(())
     }
 
-    /// Reads the clock after a wait, and has the readers process a tick at that moment: the matches
-    /// with writers that are gone end, and the lines of this are written.
+    /// Has the readers process a tick at the moment at which a wait ended: the matches with writers
+    /// that are gone end, and the lines of this are written.
     ///
     /// Returns what [`Live::take`] returns.
     fn pass<N: Exchange, W: Write, T: Threads + Sync>(
         &mut self,
         rt: &T,
+        moment: u64,
         network: &mut N,
         lines: &mut Lines<'_, W>,
     ) -> Result<(), RunFault>
@@ -133,15 +135,15 @@ where
         ensures empty { OnOk result (lines.new.text.items ≡ []) }
         ensures same { OnOk result (IsSameRun self.old.run self.new.run) }
         ensures left { self.new.left ≡ self.old.left }
-        ensures goes_on { OnOk result (PassesOn C.text_of C.decoding self.old self.new
+        ensures goes_on { OnOk result (PassesOn C.text_of C.decoding moment self.old self.new
             (N.traffic network.old) (N.traffic network.new)
             (W.contents lines.old.writer.now) (W.contents lines.new.writer.now)) }
-        ensures stops { IfErr result (λ fault. PassStops C.text_of C.decoding self.old fault
+        ensures stops { IfErr result (λ fault. PassStops C.text_of C.decoding moment self.old fault
             (N.traffic network.old) (N.traffic network.new)
             (W.contents lines.old.writer.now) (W.contents lines.new.writer.now)) }
     {
-        self.moment = network.moment();
-        self.batch.hold_tick(self.moment);
+        self.moment = moment;
+        self.batch.hold_tick(moment);
         self.process(rt, network, lines)
     }
 
@@ -237,11 +239,11 @@ where
             if self.left == 0 {
                 return Ok(end);
             }
-            match network.wait() {
-                Ok(()) => {}
+            let moment = match network.wait() {
+                Ok(moment) => moment,
                 Err(_) => return Ok(ReceiveEnd::Fault),
-            }
-            self.pass(rt, network, lines)?;
+            };
+            self.pass(rt, moment, network, lines)?;
             end = self.take_all(rt, network, lines)?;
             match end {
                 ReceiveEnd::Fault => return Ok(end),

@@ -1,9 +1,10 @@
 //! The settings of a run.
 
-ghost use Rattle.std.specs.Prelude.{◌≡◌, ◌≤◌, Ok};
+ghost use Rattle.std.specs.Prelude.{◌≡◌, ◌≤◌, ◌+◌, ◌*◌, ◌/◌, Ok, length, max, min};
 ghost use Rattle.rtps_discovery.specs.Config.{check_of};
 ghost use Rattle.dds_cache.specs.Cache.{IsHistory};
 ghost use Rattle.rtps_text.specs.Entries.{IsHistory-prop};
+ghost use Rattle.rtps_text.specs.Setup.{formatters_of, runners_of, saturated, sharing};
 
 use dds_cache::History;
 use rtps_discovery::Config;
@@ -40,7 +41,8 @@ impl Pace {
     /// Returns the pace of a run beside the thread that formats: three quarters of the workers, but
     /// at least two if there are several.
     pub(crate) fn running(self) -> Pace
-        ensures { result.batch ≡ self.batch }
+        ensures batch { result.batch ≡ self.batch }
+        ensures workers { result.workers ≡ max (self.workers * 3 / 4) (min self.workers 2) }
     {
         self.shared_by(self.workers * 3 / 4)
     }
@@ -48,7 +50,8 @@ impl Pace {
     /// Returns the pace of formatting after a run of this pace: two thirds of its workers, which is
     /// half of all, but at least two if there are several.
     pub(crate) fn formatting(self) -> Pace
-        ensures { result.batch ≡ self.batch }
+        ensures batch { result.batch ≡ self.batch }
+        ensures workers { result.workers ≡ max (self.workers * 2 / 3) (min self.workers 2) }
     {
         self.shared_by(self.workers * 2 / 3)
     }
@@ -56,7 +59,8 @@ impl Pace {
     /// Returns this pace with another number of workers, but at least two if there are several.
     fn shared_by(self, workers: u8) -> Pace
         requires { workers ≤ 64 }
-        ensures { result.batch ≡ self.batch }
+        ensures batch { result.batch ≡ self.batch }
+        ensures workers { result.workers ≡ max workers (min self.workers 2) }
     {
         Pace {
             batch: self.batch,
@@ -66,11 +70,14 @@ impl Pace {
 
     /// Returns how many workers run these datagrams for this number of readers.
     pub(crate) fn runners(&self, datagrams: &[Datagram<'_>], readers: u32) -> usize
-        ensures { (1 ≤ result) × (result ≤ 64) }
+        ensures shared { result ≡ runners_of self.now.workers datagrams.now readers }
+        ensures within { (1 ≤ result) × (result ≤ 64) }
     {
         let octets = datagrams.iter().fold(
             0_usize,
-            |octets, datagram| octets.saturating_add(datagram.bytes.len()),
+            |octets: usize, datagram: &Datagram<'_>| -> usize
+                ensures { result ≡ saturated (octets + length datagram.entry.now.bytes.now) }
+            { octets.saturating_add(datagram.bytes.len()) },
         );
         let steps = datagrams.len().saturating_add(octets / OCTETS);
         self.at_most(steps.saturating_mul(readers as usize) / STEPS)
@@ -78,14 +85,16 @@ impl Pace {
 
     /// Returns how many workers format this number of lines.
     pub(crate) fn formatters(&self, lines: usize) -> usize
-        ensures { (1 ≤ result) × (result ≤ 64) }
+        ensures shared { result ≡ formatters_of self.now.workers lines }
+        ensures within { (1 ≤ result) × (result ≤ 64) }
     {
         self.at_most(lines / LINES)
     }
 
     /// Returns this number of workers if there are as many, and at least one.
     fn at_most(&self, workers: usize) -> usize
-        ensures { (1 ≤ result) × (result ≤ 64) }
+        ensures shared { result ≡ sharing self.now.workers workers }
+        ensures within { (1 ≤ result) × (result ≤ 64) }
     {
         workers.min(self.workers as usize).max(1)
     }

@@ -1,5 +1,6 @@
 pub mod Addresses
-pub mod Bound
+pub mod Calls
 pub mod Faults
 pub mod Moments
+pub mod Ports
 pub mod Receiving

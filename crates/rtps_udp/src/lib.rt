@@ -4,13 +4,17 @@
 mod addresses;
 mod binding;
 mod fault;
+mod link;
+mod machine;
+mod moments;
 mod ports;
-mod receiving;
 mod sockets;
 #[cfg(test)]
 mod tests;
-mod timer;
 
+pub use addresses::Purpose;
 pub use binding::Binding;
 pub use fault::SocketFault;
+pub use link::Link;
+pub use machine::Machine;
 pub use sockets::Sockets;

@@ -1,125 +1,159 @@
 //! The two sockets of a participant.
 
-ghost use Rattle.std.specs.Prelude.{◌≡◌, IfErr, IfOk, None};
-ghost use Rattle.rtps_udp.specs.Faults.{IsBindFault, IsSendFault};
-ghost use Rattle.rtps_udp.specs.declared.addresses.Purpose.TheVariants.{Metatraffic, UserData};
+ghost use Rattle.std.specs.Prelude.{◌≡◌, ◌≤◌, ◌≢◌, IfErr, IfOk, IfSome, None, OnOk, length, take};
+ghost use Rattle.std.specs.Duration.{as_nanos};
+ghost use Rattle.std.specs.IoError.{error_kind};
+ghost use Rattle.std.specs.Time.{instant_nanos};
+ghost use Rattle.std.specs.declared.io.ErrorKind.TheVariants.{WouldBlock};
+ghost use Rattle.rtps_udp.specs.Calls.{FailsToReceive, FailsToWait, Logs, Receives, Withholds, traffic_in};
+ghost use Rattle.rtps_udp.specs.Faults.{IsBindFault};
+ghost use Rattle.rtps_udp.specs.Ports.{BindsBoth, BindsOne, ReadsMoment, ReceivesFirst, SendsAnswer, WaitsUntil};
 
 use crate::addresses::{Purpose, address_of};
 use crate::binding::Binding;
 use crate::fault::{SocketFault, bind_fault};
-use crate::receiving::{outcome_of, receive_first};
-use mio::net::UdpSocket;
-use mio::{Interest, Poll, Token};
+use crate::link::Link;
+use crate::moments::millis_between;
 use rtps_records::Receive;
 use rtps_types::Locator;
 use std::io::{self, ErrorKind};
-use std::net::{Net, SocketAddr, SocketAddrV4};
+use std::net::Ipv4Addr;
+use std::time::{Duration, Instant};
 
-/// A socket whose calls never wait, and what it receives.
-#[derive(Drop)]
-pub(crate) struct Port {
-    socket: UdpSocket,
-    purpose: Purpose,
-}
-
-impl Port {
-    /// Binds the socket of a domain's first participant that has this purpose.
-    fn bind(net: &impl Net, binding: Binding, purpose: Purpose) -> Result<Port, SocketFault>
-        ensures purpose { IfOk result (λ port. port.purpose ≡ purpose) }
-        ensures fault { IfErr result IsBindFault }
-    {
-        let address = SocketAddr::V4(address_of(binding, purpose));
-        match UdpSocket::bind(net, address) {
-            Ok(socket) => Ok(Port { socket, purpose }),
-            Err(e) => Err(bind_fault(purpose, e.kind())),
-        }
-    }
-
-    /// Sends an answer. Only the socket for discovery sends, whichever reader answers.
-    fn send(&self, to: Locator, octets: &[u8]) -> Result<(), SocketFault>
-        requires { self.now.purpose ≡ Metatraffic }
-        ensures { IfErr result IsSendFault }
-    {
-        let address = SocketAddr::V4(SocketAddrV4::from(to));
-        match self.socket.send_to(octets, address) {
-            Ok(_) => Ok(()),
-            Err(e) => Err(SocketFault::Send(e.kind())),
-        }
+/// Binds the socket of a domain's first participant that has this purpose.
+fn bind_one<L: Link>(link: &mut L, binding: Binding, purpose: Purpose) -> Result<(), SocketFault>
+    ensures bound { OnOk result (BindsOne binding purpose (L.calls link.old) (L.calls link.new)) }
+    ensures fault { IfErr result IsBindFault }
+{
+    match link.bind(purpose, address_of(binding, purpose)) {
+        Ok(()) => Ok(()),
+        Err(e) => Err(bind_fault(purpose, e.kind())),
     }
 }
 
-/// A socket as a source of datagrams.
-#[derive(Drop)]
-struct Source<'a>(&'a Port);
-
-impl Receive for Source<'_> {
-    ghost traffic = { λ _. None };
-
-    #[tactic(auto, unfolding(crate::specs::Receiving::Comes))]
-    fn receive(&mut self, room: &mut [u8]) -> io::Result<Option<usize>> {
-        match self.0.socket.recv_from(room) {
-            Ok((length, _)) => outcome_of(Ok(length)),
-            Err(e) => outcome_of(Err(e)),
-        }
+/// Receives the next datagram that a socket has: its length, or `None` if the call would have to
+/// wait, because all datagrams that came were received. Any other error is a fault of the socket.
+fn receive_at<L: Link>(link: &mut L, purpose: Purpose, room: &mut [u8]) -> io::Result<Option<usize>>
+    ensures fits { IfOk result (λ next. IfSome next (λ n. n ≤ length room.new)) }
+    ensures some { IfOk result (λ next. IfSome next (λ n.
+        Logs (L.calls link.old) (L.calls link.new)
+        (Receives purpose (take n room.new)))) }
+    ensures none { IfOk result (λ next. next ≡ None
+        → Logs (L.calls link.old) (L.calls link.new)
+        (FailsToReceive purpose WouldBlock)) }
+    ensures fault { IfErr result (λ e. (error_kind e ≢ WouldBlock)
+        × Logs (L.calls link.old) (L.calls link.new)
+        (FailsToReceive purpose (error_kind e))) }
+{
+    match link.receive(purpose, room) {
+        Ok(length) => Ok(Some(length)),
+        Err(e) if e.kind() == ErrorKind::WouldBlock => Ok(None),
+        Err(e) => Err(e),
     }
 }
 
-/// The two sockets of a participant.
+/// The two sockets of a participant, with the link that they belong to.
 #[derive(Drop)]
-pub(crate) struct Ports {
-    /// Receives the datagrams of discovery, and sends all answers.
-    metatraffic: Port,
-    /// Receives user data.
-    user: Port,
+pub(crate) struct Ports<L: Link> {
+    /// Its socket for discovery receives the datagrams of discovery, and sends all answers; that
+    /// for user data receives these.
+    link: L,
+    /// The time that milliseconds are counted from.
+    start: Instant,
     /// The kind of the error of the last receive call that failed.
     failure: ErrorKind,
-    ghost first: { metatraffic.purpose ≡ Metatraffic },
-    ghost second: { user.purpose ≡ UserData },
 }
 
-impl Ports {
-    /// Binds both sockets.
-    pub(crate) fn bind(net: &impl Net, binding: Binding) -> Result<Ports, SocketFault>
-        ensures { IfErr result IsBindFault }
+impl<L: Link> Ports<L> {
+    /// Binds both sockets. At a fault none is left bound.
+    pub(crate) fn bind(link: L, start: Instant, binding: Binding) -> Result<Ports<L>, SocketFault>
+        ensures bound { IfOk result (λ ports.
+            BindsBoth binding (L.calls link) (L.calls ports.link)) }
+        ensures start { IfOk result (λ ports. ports.start ≡ start) }
+        ensures fault { IfErr result IsBindFault }
     {
+        let mut link = link;
+        bind_one(&mut link, binding, Purpose::Metatraffic)?;
+        bind_one(&mut link, binding, Purpose::UserData)?;
         Ok(Ports {
-            metatraffic: Port::bind(net, binding, Purpose::Metatraffic)?,
-            user: Port::bind(net, binding, Purpose::UserData)?,
+            link,
+            start,
             failure: ErrorKind::Other,
         })
     }
 
-    /// Returns a poll that waits until one of the sockets has a datagram.
-    pub(crate) fn poll(&mut self, net: &impl Net) -> io::Result<Poll> {
-        let poll = Poll::new(net)?;
-        poll.registry()
-            .register(&mut self.metatraffic.socket, Token(0), Interest::READABLE)?;
-        poll.registry()
-            .register(&mut self.user.socket, Token(1), Interest::READABLE)?;
-        Ok(poll)
+    /// Sends an answer from the socket for discovery.
+    #[tactic(auto, unfolding(crate::specs::Ports::SendsAnswer))]
+    pub(crate) fn send(&mut self, to: Locator, octets: &[u8]) -> Result<(), SocketFault>
+        ensures sent { SendsAnswer (L.calls self.old.link) (L.calls self.new.link)
+            to octets.now result }
+        ensures start { self.new.start ≡ self.old.start }
+    {
+        match self.link.send(Purpose::Metatraffic, to, octets) {
+            Ok(()) => Ok(()),
+            Err(e) => Err(SocketFault::Send(e.kind())),
+        }
     }
 
-    /// Sends an answer from the socket for discovery.
-    pub(crate) fn send(&self, to: Locator, octets: &[u8]) -> Result<(), SocketFault>
-        ensures { IfErr result IsSendFault }
+    /// Tells the link of an answer that isn't sent from the address `bound`.
+    pub(crate) fn withhold(&mut self, bound: Ipv4Addr, to: Locator, octets: &[u8])
+        ensures withheld { Logs (L.calls self.old.link) (L.calls self.new.link)
+            (Withholds bound to octets.now) }
+        ensures start { self.new.start ≡ self.old.start }
     {
-        self.metatraffic.send(to, octets)
+        self.link.withhold(bound, to, octets);
+    }
+
+    /// Waits until a datagram has come, but at most this time, and returns the moment of the end,
+    /// in milliseconds from the start.
+    pub(crate) fn wait(&mut self, within: Duration) -> io::Result<u64>
+        ensures waited { IfOk result (λ moment. WaitsUntil (as_nanos within)
+            (instant_nanos self.old.start) moment
+            (L.calls self.old.link) (L.calls self.new.link)) }
+        ensures fault { IfErr result (λ e. Logs (L.calls self.old.link) (L.calls self.new.link)
+            (FailsToWait (error_kind e))) }
+        ensures start { self.new.start ≡ self.old.start }
+    {
+        Ok(millis_between(self.start, self.link.wait(within)?))
+    }
+
+    /// Reads the clock: returns the milliseconds from the start.
+    pub(crate) fn moment(&mut self) -> io::Result<u64>
+        ensures read { IfOk result (λ moment. ReadsMoment (instant_nanos self.old.start) moment
+            (L.calls self.old.link) (L.calls self.new.link)) }
+        ensures fault { IfErr result (λ e. Logs (L.calls self.old.link) (L.calls self.new.link)
+            (FailsToWait (error_kind e))) }
+        ensures start { self.new.start ≡ self.old.start }
+    {
+        Ok(millis_between(self.start, self.link.now()?))
     }
 
     /// Returns the kind of the error of the last receive call that failed.
     pub(crate) fn failure(&self) -> ErrorKind {
         self.failure
     }
+
+    /// Receives the next datagram. The socket for user data is tried only if that for discovery has
+    /// none left, so that a writer is known before its samples come.
+    #[tactic(auto, unfolding(crate::specs::Ports::ReceivesFirst))]
+    fn receive_first(&mut self, room: &mut [u8]) -> io::Result<Option<usize>>
+        ensures fits { IfOk result (λ next. IfSome next (λ n. n ≤ length room.new)) }
+        ensures receives { ReceivesFirst (L.calls self.old.link) (L.calls self.new.link)
+            room.new result }
+        ensures start { self.new.start ≡ self.old.start }
+    {
+        match receive_at(&mut self.link, Purpose::Metatraffic, room)? {
+            Some(length) => Ok(Some(length)),
+            None => receive_at(&mut self.link, Purpose::UserData, room),
+        }
+    }
 }
 
-impl Receive for Ports {
-    ghost traffic = { λ _. None };
+impl<L: Link> Receive for Ports<L> {
+    ghost traffic = { λ ports. traffic_in (instant_nanos ports.start) (L.calls ports.link) };
 
-    /// Discovery's datagrams come first, so that a writer is known before its samples come.
     fn receive(&mut self, room: &mut [u8]) -> io::Result<Option<usize>> {
-        let mut metatraffic = Source(&self.metatraffic);
-        let mut user = Source(&self.user);
-        match receive_first(&mut metatraffic, &mut user, room) {
+        match self.receive_first(room) {
             Ok(next) => Ok(next),
             Err(e) => {
                 self.failure = e.kind();

@@ -1,26 +1,28 @@
 //! The sockets of a domain's first participant on this machine.
 
-ghost use Rattle.std.specs.Prelude.{◌≡◌, ◌*◌, ◌≤◌, Err, IfErr, IfOk, None, Ok, false, length, true};
+ghost use Rattle.std.specs.Prelude.{◌≡◌, ◌≢◌, ◌*◌, ◌≤◌, [], Err, IfErr, IfOk, OnErr, OnOk, false, length, true};
 ghost use Rattle.std.specs.Duration.{as_nanos};
 ghost use Rattle.std.specs.Net.Addr.{ipv4_octets};
-ghost use Rattle.rtps_records.specs.Batches.{records_in};
+ghost use Rattle.std.specs.Time.{instant_nanos};
+ghost use Rattle.rtps_records.specs.Batches.{IsFull, records_in};
 ghost use Rattle.rtps_udp.specs.Addresses.{is_answered as is_answered_by, is_bindable as is_bindable_at, localhost};
-ghost use Rattle.rtps_udp.specs.Faults.{IsBindFault, IsReceiveFault, IsSendFault};
-ghost use Rattle.rtps_udp.specs.Receiving.{AreReceivedAt};
-ghost use Rattle.rtps_udp.specs.Bound.{bound_address, moment_of};
+ghost use Rattle.rtps_udp.specs.Calls.{Logs, Withholds, traffic_in};
+ghost use Rattle.rtps_udp.specs.Faults.{IsBindFault, IsReceiveFault};
+ghost use Rattle.rtps_udp.specs.Ports.{BindsBoth, ReadsMoment, SendsAnswer, WaitsUntil};
+ghost use Rattle.rtps_udp.specs.Receiving.{Fills, HoldsAll, Takes, TakesLater};
 
 use crate::addresses::{is_answered, is_bindable};
 use crate::binding::Binding;
 use crate::fault::{SocketFault, other_fault};
+use crate::link::Link;
+use crate::machine::Machine;
 use crate::ports::Ports;
-use crate::timer::Timer;
-use mio::{Events, Poll};
 use rtps_records::{Batch, Exchange, Receive, ReceiveEnd};
 use rtps_types::Locator;
 use std::alloc::Global;
 use std::io;
 use std::net::{Ipv4Addr, Net};
-use std::time::{Clock, Duration};
+use std::time::{Clock, Duration, Instant};
 
 /// The most datagrams of a batch: those that a participant takes at a time.
 const MOST: u16 = 4_096;
@@ -62,19 +64,15 @@ fn turn() -> Duration
 /// }
 /// ```
 #[derive(Drop)]
-pub struct Sockets<'a, K> {
-    poll: Poll,
-    events: Events<Global>,
-    ports: Ports,
-    /// The address that both sockets are bound to.
-    bound: Ipv4Addr,
-    /// Counts from the moment that the sockets were bound.
-    timer: Timer<'a, K>,
+pub struct Sockets<L: Link> {
+    ports: Ports<L>,
+    /// Where both sockets are bound.
+    binding: Binding,
     /// The moment at which the clock was read last, in milliseconds; 0 before that.
     moment: u64,
 }
 
-impl<'a, K: Clock> Sockets<'a, K> {
+impl<'a, N: Net, K: Clock> Sockets<Machine<'a, N, K>> {
     /// Binds the sockets of the first participant of a domain, 0 to 232, on the loopback interface,
     /// 127.0.0.1, so that no other machine reaches it, and starts to count milliseconds by the
     /// clock.
@@ -82,13 +80,14 @@ impl<'a, K: Clock> Sockets<'a, K> {
     /// The faults are those of [`Sockets::bind_at`]. `ForeignAddress` comes only where this machine
     /// doesn't have the address 127.0.0.1, for example because its loopback interface is down.
     pub fn bind(
-        net: &impl Net,
+        net: &'a N,
         clock: &'a K,
         alloc: Global,
         domain: u16,
-    ) -> Result<Sockets<'a, K>, SocketFault>
+    ) -> Result<Sockets<Machine<'a, N, K>>, SocketFault>
         requires { domain ≤ 232 }
-        ensures bound { IfOk result (λ sockets. bound_address sockets ≡ localhost) }
+        ensures domain { IfOk result (λ sockets. sockets.binding.domain ≡ domain) }
+        ensures address { IfOk result (λ sockets. sockets.binding.address ≡ localhost) }
         ensures fault { IfErr result IsBindFault }
     {
         Sockets::bind_at(net, clock, alloc, Binding::loopback(domain))
@@ -104,12 +103,12 @@ impl<'a, K: Clock> Sockets<'a, K> {
     /// `UserPortTaken` if another socket has its port, `ForeignAddress` if the address isn't one of
     /// this machine, and `Bind` for any other error of the system. `NoMemory` may come instead.
     pub fn bind_at(
-        net: &impl Net,
+        net: &'a N,
         clock: &'a K,
         alloc: Global,
         binding: Binding,
-    ) -> Result<Sockets<'a, K>, SocketFault>
-        ensures bound { IfOk result (λ sockets. bound_address sockets ≡ binding.address) }
+    ) -> Result<Sockets<Machine<'a, N, K>>, SocketFault>
+        ensures bound { IfOk result (λ sockets. sockets.binding ≡ binding) }
         ensures foreign { is_bindable_at (ipv4_octets binding.address) ≡ false
             → result ≡ Err SocketFault.ForeignAddress }
         ensures fault { IfErr result IsBindFault }
@@ -117,35 +116,46 @@ impl<'a, K: Clock> Sockets<'a, K> {
         if !is_bindable(binding.address) {
             return Err(SocketFault::ForeignAddress);
         }
-        let timer = match Timer::start(clock) {
-            Ok(timer) => timer,
+        let start = match Instant::now(clock) {
+            Ok(start) => start,
             Err(e) => return Err(SocketFault::Clock(e.kind())),
         };
-        let mut ports = Ports::bind(net, binding)?;
-        let poll = match ports.poll(net) {
-            Ok(poll) => poll,
-            Err(e) => return Err(other_fault(e.kind())),
-        };
-        let Ok(events) = Events::with_capacity(alloc, 2) else {
-            return Err(SocketFault::NoMemory);
-        };
-        Ok(Sockets {
-            poll,
-            events,
-            ports,
-            bound: binding.address,
-            timer,
-            moment: 0,
-        })
+        match Machine::new(net, clock, alloc) {
+            Ok(machine) => Sockets::over(machine, start, binding),
+            Err(e) => Err(other_fault(e.kind())),
+        }
     }
 }
 
-impl<K: Clock> Sockets<'_, K> {
+impl<L: Link> Sockets<L> {
+    /// Binds the sockets of a domain's first participant over a link of one's own, for example one
+    /// that keeps what is sent. Moments are counted from `start`, a time of the link's clock.
+    ///
+    /// The faults are those of [`Sockets::bind_at`] without `Clock`. Then no socket is left bound.
+    pub fn over(link: L, start: Instant, binding: Binding) -> Result<Sockets<L>, SocketFault>
+        ensures bound { IfOk result (λ sockets. sockets.binding ≡ binding) }
+        ensures binds { IfOk result (λ sockets.
+            BindsBoth binding (L.calls link) (L.calls sockets.ports.link)) }
+        ensures start { IfOk result (λ sockets. sockets.ports.start ≡ start) }
+        ensures foreign { is_bindable_at (ipv4_octets binding.address) ≡ false
+            → result ≡ Err SocketFault.ForeignAddress }
+        ensures fault { IfErr result IsBindFault }
+    {
+        if !is_bindable(binding.address) {
+            return Err(SocketFault::ForeignAddress);
+        }
+        Ok(Sockets {
+            ports: Ports::bind(link, start, binding)?,
+            binding,
+            moment: 0,
+        })
+    }
+
     /// Returns the address that the sockets are bound to.
     pub fn address(&self) -> Ipv4Addr
-        ensures { result ≡ bound_address self.now }
+        ensures { result ≡ self.now.binding.address }
     {
-        self.bound
+        self.binding.address
     }
 
     /// Replaces the records of the batch by the datagrams that have come, at most 4,096 of them and
@@ -159,20 +169,51 @@ impl<K: Clock> Sockets<'_, K> {
     /// `NoMemory` if a growth of the batch is refused. The datagrams that were received until then
     /// are in the batch, and no other one was received.
     pub fn receive_batch(&mut self, batch: &mut Batch, within: Duration) -> Result<u64, SocketFault>
-        ensures moment { IfOk result (λ moment. moment ≡ moment_of self.new) }
-        ensures received { AreReceivedAt (moment_of self.new) (records_in batch.new) }
+        ensures moment { IfOk result (λ moment. moment ≡ self.new.moment) }
+        ensures takes { IfOk result (λ moment. Takes (as_nanos within)
+            (instant_nanos self.old.ports.start) (L.calls self.old.ports.link)
+            (traffic_in (instant_nanos self.new.ports.start) (L.calls self.new.ports.link))
+            moment (records_in batch.new) (IsFull 4096 batch.new)) }
+        ensures holds { HoldsAll
+            (traffic_in (instant_nanos self.old.ports.start) (L.calls self.old.ports.link))
+            (traffic_in (instant_nanos self.new.ports.start) (L.calls self.new.ports.link))
+            self.new.moment (records_in batch.new) }
         ensures few { length (records_in batch.new) ≤ 4096 }
-        ensures same { bound_address self.new ≡ bound_address self.old }
+        ensures same { self.new.binding ≡ self.old.binding }
         ensures fault { IfErr result IsReceiveFault }
     {
         batch.clear();
         self.read_clock()?;
-        self.fill(batch)?;
-        if batch.is_empty() {
-            self.wait_for(within)?;
-            self.read_clock()?;
-            self.fill(batch)?;
+        match self.fill(batch)? {
+            ReceiveEnd::Drained => {
+                if batch.is_empty() {
+                    return self.receive_later(batch, within);
+                }
+                Ok(self.moment)
+            }
+            _ => Ok(self.moment),
         }
+    }
+
+    /// Replaces the records of a batch that has none by the datagrams that have come at the end of a
+    /// wait.
+    fn receive_later(&mut self, batch: &mut Batch, within: Duration) -> Result<u64, SocketFault>
+        requires { records_in batch.old ≡ [] }
+        ensures moment { IfOk result (λ moment. moment ≡ self.new.moment) }
+        ensures takes { IfOk result (λ moment. TakesLater (as_nanos within)
+            (instant_nanos self.old.ports.start) (L.calls self.old.ports.link)
+            (traffic_in (instant_nanos self.new.ports.start) (L.calls self.new.ports.link))
+            moment (records_in batch.new) (IsFull 4096 batch.new)) }
+        ensures holds { HoldsAll
+            (traffic_in (instant_nanos self.old.ports.start) (L.calls self.old.ports.link))
+            (traffic_in (instant_nanos self.new.ports.start) (L.calls self.new.ports.link))
+            self.new.moment (records_in batch.new) }
+        ensures few { length (records_in batch.new) ≤ 4096 }
+        ensures same { self.new.binding ≡ self.old.binding }
+        ensures fault { IfErr result IsReceiveFault }
+    {
+        self.wait_for(within)?;
+        self.fill(batch)?;
         Ok(self.moment)
     }
 
@@ -183,13 +224,20 @@ impl<K: Clock> Sockets<'_, K> {
     /// on loopback (127.0.0.0/8) one that isn't on loopback too; from others a multicast address
     /// (224.0.0.0/4), the broadcast address 255.255.255.255, or one of 0.0.0.0/8. `Send` if the
     /// system refuses it, for example where there is no way to that network.
-    pub fn send_answer(&self, to: Locator, octets: &[u8]) -> Result<(), SocketFault>
-        ensures refused { is_answered_by (ipv4_octets (bound_address self.now)) to ≡ false
-            → result ≡ Err SocketFault.NotAnswered }
-        ensures fault { is_answered_by (ipv4_octets (bound_address self.now)) to ≡ true
-            → IfErr result IsSendFault }
+    pub fn send_answer(&mut self, to: Locator, octets: &[u8]) -> Result<(), SocketFault>
+        ensures refused { is_answered_by (ipv4_octets self.old.binding.address) to ≡ false
+            → (result ≡ Err SocketFault.NotAnswered)
+            × Logs (L.calls self.old.ports.link) (L.calls self.new.ports.link)
+            (Withholds self.old.binding.address to octets.now) }
+        ensures sent { is_answered_by (ipv4_octets self.old.binding.address) to ≡ true
+            → SendsAnswer (L.calls self.old.ports.link) (L.calls self.new.ports.link)
+            to octets.now result }
+        ensures same { self.new.binding ≡ self.old.binding }
+        ensures moment { self.new.moment ≡ self.old.moment }
+        ensures start { self.new.ports.start ≡ self.old.ports.start }
     {
-        if !is_answered(self.bound, to) {
+        if !is_answered(self.binding.address, to) {
+            self.ports.withhold(self.binding.address, to, octets);
             return Err(SocketFault::NotAnswered);
         }
         self.ports.send(to, octets)
@@ -197,22 +245,40 @@ impl<K: Clock> Sockets<'_, K> {
 
     /// Waits until a datagram has come, but at most this time.
     fn wait_for(&mut self, within: Duration) -> Result<(), SocketFault>
-        ensures moment { self.new.moment ≡ self.old.moment }
-        ensures same { self.new.bound ≡ self.old.bound }
+        ensures waited { OnOk result (WaitsUntil (as_nanos within)
+            (instant_nanos self.old.ports.start) self.new.moment
+            (L.calls self.old.ports.link) (L.calls self.new.ports.link)) }
+        ensures failed { OnErr result (HoldsAll
+            (traffic_in (instant_nanos self.old.ports.start) (L.calls self.old.ports.link))
+            (traffic_in (instant_nanos self.new.ports.start) (L.calls self.new.ports.link))
+            self.new.moment []) }
+        ensures start { self.new.ports.start ≡ self.old.ports.start }
+        ensures same { self.new.binding ≡ self.old.binding }
         ensures fault { IfErr result IsReceiveFault }
     {
-        match self.poll.poll(&mut self.events, Some(within)) {
-            Ok(()) => Ok(()),
+        match self.ports.wait(within) {
+            Ok(moment) => {
+                self.moment = moment;
+                Ok(())
+            }
             Err(e) => Err(SocketFault::Receive(e.kind())),
         }
     }
 
     /// Reads the clock.
     fn read_clock(&mut self) -> Result<(), SocketFault>
-        ensures same { self.new.bound ≡ self.old.bound }
+        ensures read { OnOk result (ReadsMoment
+            (instant_nanos self.old.ports.start) self.new.moment
+            (L.calls self.old.ports.link) (L.calls self.new.ports.link)) }
+        ensures failed { OnErr result (HoldsAll
+            (traffic_in (instant_nanos self.old.ports.start) (L.calls self.old.ports.link))
+            (traffic_in (instant_nanos self.new.ports.start) (L.calls self.new.ports.link))
+            self.new.moment []) }
+        ensures start { self.new.ports.start ≡ self.old.ports.start }
+        ensures same { self.new.binding ≡ self.old.binding }
         ensures fault { IfErr result IsReceiveFault }
     {
-        match self.timer.read() {
+        match self.ports.moment() {
             Ok(moment) => {
                 self.moment = moment;
                 Ok(())
@@ -222,23 +288,31 @@ impl<K: Clock> Sockets<'_, K> {
     }
 
     /// Replaces the records of the batch by the datagrams that have come, without waiting.
-    fn fill(&mut self, batch: &mut Batch) -> Result<(), SocketFault>
-        ensures received { AreReceivedAt self.new.moment (records_in batch.new) }
+    fn fill(&mut self, batch: &mut Batch) -> Result<ReceiveEnd, SocketFault>
+        ensures fills { IfOk result (λ end. Fills end
+            (traffic_in (instant_nanos self.old.ports.start) (L.calls self.old.ports.link))
+            (traffic_in (instant_nanos self.new.ports.start) (L.calls self.new.ports.link))
+            self.old.moment (records_in batch.new) (IsFull 4096 batch.new)) }
+        ensures holds { HoldsAll
+            (traffic_in (instant_nanos self.old.ports.start) (L.calls self.old.ports.link))
+            (traffic_in (instant_nanos self.new.ports.start) (L.calls self.new.ports.link))
+            self.old.moment (records_in batch.new) }
         ensures few { length (records_in batch.new) ≤ 4096 }
         ensures moment { self.new.moment ≡ self.old.moment }
-        ensures same { self.new.bound ≡ self.old.bound }
+        ensures same { self.new.binding ≡ self.old.binding }
         ensures fault { IfErr result IsReceiveFault }
     {
         match batch.receive(&mut self.ports, self.moment, MOST) {
             Ok(ReceiveEnd::Fault) => Err(SocketFault::Receive(self.ports.failure())),
-            Ok(_) => Ok(()),
+            Ok(end) => Ok(end),
             Err(_) => Err(SocketFault::NoMemory),
         }
     }
 }
 
-impl<K: Clock> Receive for Sockets<'_, K> {
-    ghost traffic = { λ _. None };
+impl<L: Link> Receive for Sockets<L> {
+    ghost traffic = { λ sockets.
+        traffic_in (instant_nanos sockets.ports.start) (L.calls sockets.ports.link) };
 
     /// Discovery's datagrams come first, so that a writer is known before its samples come.
     fn receive(&mut self, room: &mut [u8]) -> io::Result<Option<usize>> {
@@ -246,17 +320,12 @@ impl<K: Clock> Receive for Sockets<'_, K> {
     }
 }
 
-impl<K: Clock> Exchange for Sockets<'_, K> {
+impl<L: Link> Exchange for Sockets<L> {
     /// Waits at most a tenth of a second. A clock that can't be read is an error too.
-    fn wait(&mut self) -> io::Result<()> {
-        self.poll.poll(&mut self.events, Some(turn()))?;
-        self.moment = self.timer.read()?;
-        Ok(())
-    }
-
-    /// The clock was read at the end of the last wait.
-    fn moment(&mut self) -> u64 {
-        self.moment
+    fn wait(&mut self) -> io::Result<u64> {
+        let moment = self.ports.wait(turn())?;
+        self.moment = moment;
+        Ok(moment)
     }
 
     /// As [`Sockets::send_answer`] sends it, but a fault isn't reported.

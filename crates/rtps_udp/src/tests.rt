@@ -2,14 +2,14 @@
 
 ghost use Rattle.std.specs.Prelude.{◌≤◌, IfOk};
 
-use crate::{Binding, SocketFault, Sockets};
+use crate::{Binding, Link, Machine, Purpose, SocketFault, Sockets};
 use rtps_records::{Batch, Exchange, Receive};
 use rtps_types::Locator;
 use std::cell::Cell;
 use std::io::{self, ErrorKind};
-use std::net::{Ipv4Addr, SocketAddr, UdpSocket};
+use std::net::{Ipv4Addr, SocketAddr, SocketAddrV4, UdpSocket};
 use std::test::Fail;
-use std::time::{Clock, Duration};
+use std::time::{Clock, Duration, Instant};
 
 /// Domains that nothing else here uses, and the port for datagrams of discovery in each, which is
 /// 7410 + 250 times the domain. The next port is for user data. There are several domains, so that
@@ -26,10 +26,10 @@ const DOMAINS: [(u16, u16); 6] = [
 /// Returns the sockets at an address of the first of these domains whose ports are free, the
 /// domain, and its first port.
 fn free_sockets<'a, K: Clock>(
-    rt: &HostRuntime,
+    rt: &'a HostRuntime,
     clock: &'a K,
     address: Ipv4Addr,
-) -> Result<(Sockets<'a, K>, u16, u16), Fail>
+) -> Result<(Sockets<Machine<'a, HostRuntime, K>>, u16, u16), Fail>
     ensures { IfOk result (λ free. free.1 ≤ 232) }
 {
     for (domain, port) in DOMAINS {
@@ -97,7 +97,6 @@ fn receives_batches_at_another_address(rt: HostRuntime) -> Result<(), Fail> {
     peer.send_to(b"user", ("127.0.0.2", user))?;
     peer.send_to(b"found", ("127.0.0.2", discovery))?;
     let moment = sockets.receive_batch(&mut batch, Duration::from_secs(30))?;
-    assert_eq!(rt; moment, sockets.moment());
     let datagrams = batch.datagrams(rt.alloc())?;
     assert_eq!(rt; datagrams.len(), 2);
     for (datagram, bytes) in datagrams
@@ -117,7 +116,7 @@ fn receives_batches_at_another_address(rt: HostRuntime) -> Result<(), Fail> {
 
 #[test]
 fn answers_by_the_address_that_is_bound(rt: HostRuntime) -> Result<(), Fail> {
-    let (sockets, _, _) = free_sockets(&rt, &rt, Ipv4Addr::LOCALHOST)?;
+    let (mut sockets, _, _) = free_sockets(&rt, &rt, Ipv4Addr::LOCALHOST)?;
     let elsewhere = Locator {
         port: 7410,
         address: [192, 0, 2, 1],
@@ -128,12 +127,19 @@ fn answers_by_the_address_that_is_bound(rt: HostRuntime) -> Result<(), Fail> {
     );
     drop(sockets);
 
-    let (sockets, _, discovery) = free_sockets(&rt, &rt, Ipv4Addr::UNSPECIFIED)?;
+    let (mut sockets, _, discovery) = free_sockets(&rt, &rt, Ipv4Addr::UNSPECIFIED)?;
     let (peer, to) = peer(&rt)?;
     sockets.send_answer(to, b"ask")?;
-    let mut room = [0; 4];
-    let (_, from) = peer.recv_from(&mut room)?;
+    let mut room = vec![in rt.alloc(); 0u8; 65_507]?;
+    let (_, from) = peer.recv_from(room.as_mut_slice())?;
     assert_eq!(rt; from, SocketAddr::from((Ipv4Addr::LOCALHOST, discovery)));
+    let large = vec![in rt.alloc(); 7u8; 40_000]?;
+    sockets.send_answer(to, large.as_slice())?;
+    let (length, _) = peer.recv_from(room.as_mut_slice())?;
+    assert!(rt;
+        room.get(..length) == Some(large.as_slice()),
+        "{length} octets came"
+    );
     for address in [[239, 255, 0, 1], [255; 4], [0; 4]] {
         let nobody = Locator {
             port: 7410,
@@ -189,6 +195,8 @@ fn names_the_port_that_is_taken(rt: HostRuntime) -> Result<(), Fail> {
             Ok(_) => assert!(rt; false, "the port is free"),
             Err(fault) => assert_eq!(rt; fault, SocketFault::UserPortTaken),
         }
+        // The socket for discovery, which was bound first, is closed.
+        UdpSocket::bind(&rt, ("127.0.0.1", port.saturating_sub(1)))?;
         return Ok(());
     }
     Err(Fail::new("the port of each domain is taken"))
@@ -212,7 +220,6 @@ impl Clock for SetClock {
 fn counts_milliseconds_from_the_bind(rt: HostRuntime) -> Result<(), Fail> {
     let clock = SetClock(Cell::new(Some(Duration::new(7, 600_000))));
     let (mut sockets, domain, _) = free_sockets(&rt, &clock, Ipv4Addr::LOCALHOST)?;
-    assert_eq!(rt; sockets.moment(), 0);
     for (time, moment) in [
         (Duration::new(7, 1_599_999), 0),
         (Duration::new(7, 1_600_000), 1),
@@ -222,13 +229,12 @@ fn counts_milliseconds_from_the_bind(rt: HostRuntime) -> Result<(), Fail> {
         (Duration::new((1 << 63) - 1, 0), u64::MAX),
     ] {
         clock.0.set(Some(time));
-        sockets.wait()?;
-        assert_eq!(rt; sockets.moment(), moment);
+        assert_eq!(rt; sockets.wait()?, moment);
     }
     clock.0.set(None);
     let fault = SocketFault::Clock(ErrorKind::Unsupported);
     match sockets.wait() {
-        Ok(()) => assert!(rt; false, "the clock was read"),
+        Ok(_) => assert!(rt; false, "the clock was read"),
         Err(error) => assert_eq!(rt; error.kind(), ErrorKind::Unsupported),
     }
     let mut batch = Batch::new(rt.alloc())?;
@@ -237,6 +243,77 @@ fn counts_milliseconds_from_the_bind(rt: HostRuntime) -> Result<(), Fail> {
     match Sockets::bind(&rt, &clock, rt.alloc(), domain) {
         Ok(_) => assert!(rt; false, "the clock was read"),
         Err(other) => assert_eq!(rt; other, fault),
+    }
+    Ok(())
+}
+
+/// Returns a port of this machine that is free.
+fn free_port(rt: &HostRuntime) -> Result<u16, Fail> {
+    let socket = UdpSocket::bind(rt, "127.0.0.1:0")?;
+    Ok(socket.local_addr()?.port())
+}
+
+#[test]
+fn a_datagram_for_either_socket_ends_a_wait(rt: HostRuntime) -> Result<(), Fail> {
+    let mut machine = Machine::new(&rt, &rt, rt.alloc())?;
+    let (peer, _) = peer(&rt)?;
+    let mut room = [0; 4];
+    for purpose in [Purpose::Metatraffic, Purpose::UserData] {
+        let at = SocketAddrV4::new(Ipv4Addr::LOCALHOST, free_port(&rt)?);
+        machine.bind(purpose, at)?;
+        peer.send_to(b"here", at)?;
+        let start = machine.now()?;
+        let end = machine.wait(Duration::from_secs(30))?;
+        assert!(rt; end.duration_since(start) < Duration::from_secs(20));
+        assert_eq!(rt; machine.receive(purpose, &mut room)?, 4);
+    }
+    Ok(())
+}
+
+/// A link whose clock stands, and on which nothing can be received.
+#[derive(Drop)]
+struct Broken {
+    time: Instant,
+    kind: ErrorKind,
+}
+
+impl Link for Broken {
+    ghost use Rattle.std.specs.Prelude.{None};
+
+    ghost calls = { λ _. None };
+
+    fn bind(&mut self, _purpose: Purpose, _at: SocketAddrV4) -> io::Result<()> {
+        Ok(())
+    }
+
+    fn receive(&mut self, _purpose: Purpose, _room: &mut [u8]) -> io::Result<usize> {
+        Err(io::Error::from(self.kind))
+    }
+
+    fn send(&mut self, _purpose: Purpose, _to: Locator, _octets: &[u8]) -> io::Result<()> {
+        Ok(())
+    }
+
+    fn withhold(&mut self, _bound: Ipv4Addr, _to: Locator, _octets: &[u8]) {}
+
+    fn wait(&mut self, _within: Duration) -> io::Result<Instant> {
+        Ok(self.time)
+    }
+
+    fn now(&mut self) -> io::Result<Instant> {
+        Ok(self.time)
+    }
+}
+
+#[test]
+fn names_the_fault_of_a_socket(rt: HostRuntime) -> Result<(), Fail> {
+    let time = Instant::now(&rt)?;
+    for kind in [ErrorKind::PermissionDenied, ErrorKind::ConnectionRefused] {
+        let link = Broken { time, kind };
+        let mut sockets = Sockets::over(link, time, Binding::loopback(0))?;
+        let mut batch = Batch::new(rt.alloc())?;
+        let received = sockets.receive_batch(&mut batch, Duration::ZERO);
+        assert_eq!(rt; received, Err(SocketFault::Receive(kind)));
     }
     Ok(())
 }

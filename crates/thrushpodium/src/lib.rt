@@ -74,34 +74,105 @@ mod subscription;
 #[cfg(test)]
 mod tests;
 
-pub use dds_cache::{
-    Answers, Condition, Content, DataReader, History, InstanceState, Sample, SampleState, Seen,
-    Taken, ViewState,
-};
-pub use dds_outlet::{Inlet, Look, Outlet, Row, Sent, StatusBoard, StatusReader, Told, outlet};
-pub use dds_participant::{AttachFault, BatchOutput, Participant, PublishFault, Workers, is_batch};
-pub use dds_qos::{
-    AccessScope, DestinationOrder, Durability, INFINITE, Liveliness, LivelinessKind, Ownership,
-    Policies, Presentation, Reliability,
-};
-pub use dds_struct::{KeyMember, Member, Structs, Structure, Text, copy_member};
-pub use dds_topic::{
-    Catalog, CatalogError, Color, NoMemory, Raw, RawValue, Shape, Shapes, TextCatalog, Unread,
-};
-pub use rtps_discovery::{
-    Config, ConfigFault, Discovery, FixedMatch, ReaderConfig, ReaderFault, check,
-};
+pub use dds_cache::Answers;
+pub use dds_cache::Condition;
+pub use dds_cache::Content;
+pub use dds_cache::DataReader;
+pub use dds_cache::History;
+pub use dds_cache::InstanceState;
+pub use dds_cache::Sample;
+pub use dds_cache::SampleState;
+pub use dds_cache::Seen;
+pub use dds_cache::Taken;
+pub use dds_cache::ViewState;
+pub use dds_outlet::Inlet;
+pub use dds_outlet::Look;
+pub use dds_outlet::Outlet;
+pub use dds_outlet::Row;
+pub use dds_outlet::Sent;
+pub use dds_outlet::StatusBoard;
+pub use dds_outlet::StatusReader;
+pub use dds_outlet::Told;
+pub use dds_outlet::outlet;
+pub use dds_participant::AttachFault;
+pub use dds_participant::BatchOutput;
+pub use dds_participant::Participant;
+pub use dds_participant::PublishFault;
+pub use dds_participant::Workers;
+pub use dds_participant::is_batch;
+pub use dds_qos::AccessScope;
+pub use dds_qos::DestinationOrder;
+pub use dds_qos::Durability;
+pub use dds_qos::INFINITE;
+pub use dds_qos::Liveliness;
+pub use dds_qos::LivelinessKind;
+pub use dds_qos::Ownership;
+pub use dds_qos::Policies;
+pub use dds_qos::Presentation;
+pub use dds_qos::Reliability;
+pub use dds_struct::KeyMember;
+pub use dds_struct::Member;
+pub use dds_struct::Structs;
+pub use dds_struct::Structure;
+pub use dds_struct::Text;
+pub use dds_struct::copy_member;
+pub use dds_topic::Catalog;
+pub use dds_topic::CatalogError;
+pub use dds_topic::Color;
+pub use dds_topic::NoMemory;
+pub use dds_topic::Raw;
+pub use dds_topic::RawValue;
+pub use dds_topic::Shape;
+pub use dds_topic::Shapes;
+pub use dds_topic::TextCatalog;
+pub use dds_topic::Unread;
+pub use rtps_discovery::Config;
+pub use rtps_discovery::ConfigFault;
+pub use rtps_discovery::Discovery;
+pub use rtps_discovery::FixedMatch;
+pub use rtps_discovery::ReaderConfig;
+pub use rtps_discovery::ReaderFault;
+pub use rtps_discovery::check;
 pub use rtps_planner::PassedOver;
-pub use rtps_reader::{Body, Notice, NoticeKind, Status};
-pub use rtps_receiver::{Counters, Event, EventBody, Events};
-pub use rtps_records::{Batch, BatchEnd, Exchange, Format, Receive, ReceiveEnd, Records, RunFault};
-pub use rtps_run::{Answer, EngineError, Outcome, StartError};
+pub use rtps_reader::Body;
+pub use rtps_reader::Notice;
+pub use rtps_reader::NoticeKind;
+pub use rtps_reader::Status;
+pub use rtps_receiver::Counters;
+pub use rtps_receiver::Event;
+pub use rtps_receiver::EventBody;
+pub use rtps_receiver::Events;
+pub use rtps_records::Batch;
+pub use rtps_records::BatchEnd;
+pub use rtps_records::Exchange;
+pub use rtps_records::Format;
+pub use rtps_records::Receive;
+pub use rtps_records::ReceiveEnd;
+pub use rtps_records::Records;
+pub use rtps_records::RunFault;
+pub use rtps_run::Answer;
+pub use rtps_run::EngineError;
+pub use rtps_run::Outcome;
+pub use rtps_run::StartError;
 pub use rtps_serial::SerialEngine;
 pub use rtps_shards::NoGate;
 pub use rtps_text::send_answers;
-pub use rtps_types::{
-    Datagram, Duration, EntityId, Guid, GuidPrefix, KeyHash, Locator, Locators, Place, PolicyId,
-    SequenceNumber, Timestamp,
-};
-pub use rtps_udp::{Binding, SocketFault, Sockets};
+pub use rtps_types::Datagram;
+pub use rtps_types::Duration;
+pub use rtps_types::EntityId;
+pub use rtps_types::Guid;
+pub use rtps_types::GuidPrefix;
+pub use rtps_types::KeyHash;
+pub use rtps_types::Locator;
+pub use rtps_types::Locators;
+pub use rtps_types::Place;
+pub use rtps_types::PolicyId;
+pub use rtps_types::SequenceNumber;
+pub use rtps_types::Timestamp;
+pub use rtps_udp::Binding;
+pub use rtps_udp::Link;
+pub use rtps_udp::Machine;
+pub use rtps_udp::Purpose;
+pub use rtps_udp::SocketFault;
+pub use rtps_udp::Sockets;
 pub use subscription::Subscription;

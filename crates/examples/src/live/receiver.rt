@@ -10,16 +10,16 @@ use std::sync::Wait;
 use std::sync::atomic::{AtomicBool, Ordering};
 use std::thread::Threads;
 use thrushpodium::{
-    Batch, BatchOutput, Config, EntityId, Exchange, GuidPrefix, Locator, Locators, NoGate, Outlet,
-    Participant, ReceiveEnd, Shape, Shapes, Sockets, StatusBoard, Subscription, Told, Workers,
-    is_batch, send_answers,
+    Batch, BatchOutput, Config, EntityId, Exchange, GuidPrefix, Locator, Locators, Machine, NoGate,
+    Outlet, Participant, ReceiveEnd, Shape, Shapes, Sockets, StatusBoard, Subscription, Told,
+    Workers, is_batch, send_answers,
 };
 
 /// The sockets of a participant with one reader, of the topic `Square`, and what is received and
 /// sent in a turn.
 #[derive(Drop)]
 pub struct Receiver<'a> {
-    network: Sockets<'a, HostRuntime>,
+    network: Sockets<Machine<'a, HostRuntime, HostRuntime>>,
     participant: Participant<Shapes>,
     batch: Batch,
     given: BatchOutput<Shape>,
@@ -64,8 +64,7 @@ impl<'a> Receiver<'a> {
             }
             // After a full batch more datagrams may be there already, so it doesn't wait then.
             if end != ReceiveEnd::More {
-                self.network.wait()?;
-                moment = self.network.moment();
+                moment = self.network.wait()?;
             }
             end = self.batch.receive(&mut self.network, moment, 256)?;
             if end == ReceiveEnd::Fault {

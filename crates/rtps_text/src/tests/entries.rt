@@ -135,9 +135,9 @@ fn keeps_the_records_before_a_fault(rt: HostRuntime) -> Result<(), Fail> {
 
 /// A writer that takes one octet per call, and fails after `most` octets.
 #[derive(Drop)]
-pub(super) struct Slow {
-    pub(super) taken: Vec<u8>,
-    pub(super) most: usize,
+struct Slow {
+    taken: Vec<u8>,
+    most: usize,
 }
 
 impl Write for Slow {

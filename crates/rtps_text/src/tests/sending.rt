@@ -27,12 +27,8 @@ impl Receive for Kept {
 }
 
 impl Exchange for Kept {
-    fn wait(&mut self) -> io::Result<()> {
-        Ok(())
-    }
-
-    fn moment(&mut self) -> u64 {
-        0
+    fn wait(&mut self) -> io::Result<u64> {
+        Ok(0)
     }
 
     fn send(&mut self, to: Locator, octets: &[u8]) {
