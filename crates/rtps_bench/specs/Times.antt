@@ -5,6 +5,10 @@ use Rattle.std.specs.List.Sorted.{IsPermutation, IsSorted}
 use Rattle.rtps_bench.specs.declared.counts.Counts.{Counts}
 use Rattle.rtps_bench.specs.declared.times.Times.{Times}
 
+-- the nanoseconds from one reading of a clock to a later one, or the greatest number of 64 bits
+abbrev pub nanos_between : ℕ → ℕ → ℕ
+nanos_between start end = min (end - start) (2 ^ 64 - 1)
+
 -- how many datagrams are processed in a second, if these take this number of nanoseconds
 abbrev pub rate : ℕ → ℕ → ℕ
 rate datagrams nanos =

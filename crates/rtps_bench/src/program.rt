@@ -1,13 +1,15 @@
 //! The program between its options, its input and its output.
 
-ghost use Rattle.std.specs.Prelude.{◌≡◌, ◌+◌, ◌⊎◌, IfErr, IfOk, OnOk, length};
+ghost use Rattle.std.specs.Prelude.{◌≡◌, ◌++◌, ◌∷◌, [], ◌⊎◌, IfErr, IfOk, OnOk, length};
 ghost use Rattle.std.specs.Io.KnownBytes.{Appends, Keeps};
 ghost use Rattle.std.specs.List.{flat_map};
+ghost use Rattle.std.specs.Time.{instant_nanos};
 ghost use Rattle.rtps_records.specs.Batches.{records_in};
 ghost use Rattle.rtps_records.specs.declared.fault.RunFault.TheVariants.{CannotWrite, NoMemory};
 ghost use Rattle.rtps_bench.specs.Measuring.{AreCountsOf, IsFault, IsRunFault, WroteCounts};
 ghost use Rattle.rtps_bench.specs.Reading.{AreFew};
 ghost use Rattle.rtps_bench.specs.Text.{counts_text};
+ghost use Rattle.rtps_bench.specs.Times.{nanos_between};
 ghost use Rattle.rtps_bench.specs.declared.fault.BenchFault.TheVariants as bench_fault;
 
 use crate::config::config_of;
@@ -74,21 +76,21 @@ fn measure<T: Threads + Clock + Sync>(
     ensures fault { IfErr result (IsRunFault options.now) }
 {
     let mut nanos = Vec::new(alloc);
-    let (counts, first) = run_once(rt, alloc, options, batches)?;
-    keep(&mut nanos, first)?;
+    let first = run_once(rt, alloc, options, batches)?;
+    keep(&mut nanos, first.nanos())?;
     for _ in 1..options.repeat {
-        let (again, next) = run_once(rt, alloc, options, batches)?;
-        if again != counts {
+        let next = run_once(rt, alloc, options, batches)?;
+        if next.counts != first.counts {
             return Err(BenchFault::Differs);
         }
-        keep(&mut nanos, next)?;
+        keep(&mut nanos, next.nanos())?;
     }
-    Ok((counts, nanos))
+    Ok((first.counts, nanos))
 }
 
 /// Adds the time of a run.
 fn keep(nanos: &mut Vec<u64>, next: u64) -> Result<(), BenchFault>
-    ensures kept { OnOk result (length nanos.new.items ≡ length nanos.old.items + 1) }
+    ensures kept { OnOk result (nanos.new.items ≡ nanos.old.items ++ next ∷ []) }
     ensures fault { IfErr result (λ fault. fault ≡ bench_fault.Run NoMemory) }
 {
     match nanos.push(next) {
@@ -97,17 +99,36 @@ fn keep(nanos: &mut Vec<u64>, next: u64) -> Result<(), BenchFault>
     }
 }
 
-/// Runs a participant. Returns what it counted, and how many nanoseconds it took to make it, to run
-/// it and to drop it with its output.
+/// A run: what it counted, and the readings of the clock before and after it.
+#[derive(Clone, Copy)]
+struct Measured {
+    counts: Counts,
+    start: Instant,
+    end: Instant,
+}
+
+impl Measured {
+    /// Returns how many nanoseconds the run took.
+    fn nanos(&self) -> u64
+        ensures { result ≡ nanos_between
+            (instant_nanos self.now.start) (instant_nanos self.now.end) }
+    {
+        let nanos = self.end.duration_since(self.start).as_nanos();
+        u64::try_from(nanos).unwrap_or(u64::MAX)
+    }
+}
+
+/// Runs a participant. Returns what it counted, and when: from before it is made until it is dropped
+/// with its output.
 fn run_once<T: Threads + Clock + Sync>(
     rt: &T,
     alloc: Global,
     options: &Options<'_>,
     batches: &[Batch],
-) -> Result<(Counts, u64), BenchFault>
+) -> Result<Measured, BenchFault>
     requires few { AreFew batches.now }
     ensures counts { IfOk result (λ r.
-        AreCountsOf options.now (flat_map records_in batches.now) r.0) }
+        AreCountsOf options.now (flat_map records_in batches.now) r.counts) }
     ensures fault { IfErr result (IsRunFault options.now) }
 {
     let config = match config_of(alloc, options) {
@@ -124,8 +145,7 @@ fn run_once<T: Threads + Clock + Sync>(
     let Ok(end) = Instant::now(rt) else {
         return Err(BenchFault::Clock);
     };
-    let nanos = end.duration_since(start).as_nanos();
-    Ok((counts, u64::try_from(nanos).unwrap_or(u64::MAX)))
+    Ok(Measured { counts, start, end })
 }
 
 /// Writes the lines of counts.
