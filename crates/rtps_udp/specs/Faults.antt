@@ -35,8 +35,3 @@ IsReceiveFault (Clock kind) = Unit {0}
 IsReceiveFault (Receive kind) = Unit {0}
 IsReceiveFault NoMemory = Unit {0}
 IsReceiveFault fault = ⊥
-
--- the faults of a call that sends to a locator which is answered
-abbrev pub IsSendFault : SocketFault → Type 0
-IsSendFault (Send kind) = Unit {0}
-IsSendFault fault = ⊥
