@@ -1,0 +1,4 @@
+pub mod Answering
+pub mod Cuts
+pub mod Lists
+pub mod Running

@@ -1,0 +1,7 @@
+use Rattle.std.proofs.Common.{rules}
+use Rattle.std.proofs.lemmas.Map.Made.{map_same_pairs}
+use Rattle.rtps_announcer.specs.Peer.{told_more}
+use Rattle.rtps_announcer.proofs.peers.note_news.Goals as goal
+
+pub returns : goal.returns
+returns g c = map_same_pairs _ (told_more c.args.rules c.args.now) _ (λ k v b w f' t. search rules) c.args.peers.now.entries c.retain.new.self.entries c.retain.ensures.filtered

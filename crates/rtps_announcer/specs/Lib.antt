@@ -1,0 +1,7 @@
+pub mod Said
+pub mod Peer
+pub mod Telling
+pub mod Held
+pub mod Announcing
+pub mod Standing
+pub mod Cuts

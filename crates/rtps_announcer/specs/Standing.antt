@@ -1,0 +1,29 @@
+-- What contracts see of an announcer.
+use Rattle.std.specs.Prelude.{◌≡◌, List, ◌++◌, Bool, false, true}
+use Rattle.rtps_announcer.specs.declared.hearing.Hearing.{Hearing}
+use Rattle.rtps_announcer.specs.declared.rules.Rules.{Rules}
+use Rattle.rtps_announcer.specs.declared.said.Sending.{Sending}
+use Rattle.rtps_announcer.specs.Announcing.{State, first, state_run, step}
+
+pub record AnnouncerView : Type 0 where
+  pub rules : Rules
+  -- a call was refused memory
+  pub failed : Bool
+  pub state : State
+
+-- an announcer stands where these hearings bring it
+pub record StandsAt (hs : List Hearing) (a : AnnouncerView) : Type 0 where
+  pub state : a.state ≡ state_run a.rules first hs
+  pub failed : a.failed ≡ false
+
+-- an announcer took what was heard, and what is said by it was put behind what was in a list
+pub record Heard (h : Hearing) (old new : AnnouncerView) (before after : List Sending) :
+    Type 0 where
+  pub state : new.state ≡ (step old.rules h old.state).state
+  pub sends : after ≡ before ++ (step old.rules h old.state).sends
+  pub failed : new.failed ≡ false
+
+-- a refused announcer has failed, and the list is as it was
+pub record IsRefused (new : AnnouncerView) (before after : List Sending) : Type 0 where
+  pub failed : new.failed ≡ true
+  pub sends : after ≡ before

@@ -1,0 +1,21 @@
+//! How a participant makes itself and its readers known: who is told what, and when (DDSI-RTPS
+//! 8.4.7, 8.4.9, 8.5.3, 8.5.4).
+#![tactic(auto)]
+
+mod announcer;
+mod hearing;
+pub mod laws;
+mod locators;
+mod now;
+mod peer;
+mod peers;
+mod rules;
+mod said;
+mod state;
+mod telling;
+
+pub use announcer::Announcer;
+pub use hearing::{Ack, Facts, Hearing};
+pub use locators::PeerLocators;
+pub use rules::Rules;
+pub use said::{Change, Destination, Said, Sending};
