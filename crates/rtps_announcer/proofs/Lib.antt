@@ -1,4 +1,6 @@
 pub mod Answering
 pub mod Cuts
+pub mod Behind
 pub mod Lists
+pub mod Opened
 pub mod Running

@@ -1,5 +1,5 @@
 -- The first of what is left, one after the other.
-use Rattle.std.proofs.Common.{◌≡◌, ℕ, zero, suc, ◌+◌, ◌-◌, ◌<◌, ◌≤◌, List, [], ◌∷◌, ◌++◌, length, take, refl, sym, ap, ◌∙◌, arith, append_assoc, add-one}
+use Rattle.std.proofs.Common.{◌≡◌, ℕ, zero, suc, ◌+◌, ◌-◌, ◌<◌, ◌≤◌, List, [], ◌∷◌, ◌++◌, take, refl, sym, ap, ◌∙◌, arith, append_assoc}
 use Rattle.std.specs.Prelude.{filter, nat_le}
 use Rattle.std.proofs.lemmas.Bool.{le-leb}
 
@@ -26,3 +26,15 @@ wanted_more most last len n old new left rest all few low pushed cut before =
     rw pushed (one_more most len n old (filter (λ (x : ℕ). nat_le x last) rest) few)
     ∙ ap (λ (l : List ℕ). old ++ take (most - len) l) (sym (kept last n rest low) ∙ ap (filter (λ (x : ℕ). nat_le x last)) (sym cut))
     ∙ before
+
+-- of what was cut, and more behind it, the first are those of all
+pub cut_more : {A : Type 0} (n : ℕ) (xs ys : List A) → take n (take n xs ++ ys) ≡ take n (xs ++ ys)
+cut_more zero xs ys = refl
+cut_more (suc n) [] ys = refl
+cut_more (suc n) (x ∷ xs) ys = ap (λ (l : List _). x ∷ l) (cut_more n xs ys)
+
+-- the first of the first are those
+pub cut_again : {A : Type 0} (n : ℕ) (xs : List A) → take n (take n xs) ≡ take n xs
+cut_again zero xs = refl
+cut_again (suc n) [] = refl
+cut_again (suc n) (x ∷ xs) = ap (λ (l : List _). x ∷ l) (cut_again n xs)

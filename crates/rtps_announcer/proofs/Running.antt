@@ -11,8 +11,16 @@ state_more r s (x ∷ xs) ys = state_more r (step r x s).state xs ys
 
 -- an announcer that stands at some hearings stands at one more after its step
 pub stood : (a : AnnouncerView) (h : Hearing) (hs : List Hearing) (s : State) → StandsAt hs a → s ≡ (step a.rules h a.state).state
-    → StandsAt (hs ++ h ∷ []) (record { rules = a.rules; failed = false; state = s })
+    → StandsAt (hs ++ h ∷ []) (record a { failed = false; state = s })
 stood a h hs s at is = record {
   state = is ∙ ap (λ (t : State). (step a.rules h t).state) at.state ∙ sym (state_more a.rules first hs (h ∷ []));
+  failed = refl;
+}
+
+-- the same at several more
+pub stood_all : (a : AnnouncerView) (more hs : List Hearing) (s : State) → StandsAt hs a → s ≡ state_run a.rules a.state more
+    → StandsAt (hs ++ more) (record a { failed = false; state = s })
+stood_all a more hs s at is = record {
+  state = is ∙ ap (λ (t : State). state_run a.rules t more) at.state ∙ sym (state_more a.rules first hs more);
   failed = refl;
 }

@@ -1,15 +1,14 @@
 -- How a participant announces itself and its readers (DDSI-RTPS 8.4.7, 8.4.9, 8.5.3, 8.5.4): what
 -- is sent at each hearing, and what the announcer is after it.
-use Rattle.std.specs.Prelude.{ℕ, zero, suc, ℤ, ◌+◌, ◌-◌, ◌%◌, ◌^◌, max, nat_le, nat_lt, List, [], ◌∷◌, ◌++◌, length, map, filter, slice_get, slice_set, Bool, true, false, not, ◌&&◌, Option, Some, None, if◌then◌else◌}
+use Rattle.std.specs.Prelude.{ℕ, ◌+◌, ◌-◌, ◌%◌, ◌^◌, max, nat_le, nat_lt, List, [], ◌∷◌, ◌++◌, length, map, filter, slice_get, slice_set, Bool, true, false, not, ◌&&◌, Option, Some, None, if◌then◌else◌}
 use Rattle.std.specs.BTreeMap.{insert_entry}
 use Rattle.std.specs.List.{flat_map, list_any}
 use Rattle.std.specs.Map.{lookup, remove_entry, set_value}
 use Rattle.std.specs.Ordering.{is_eq}
 use Rattle.std.specs.declared.cmp.Ordering.{Ordering}
 use Rattle.rtps_types.specs.declared.identity.GuidPrefix.{GuidPrefix}
-use Rattle.rtps_types.specs.declared.locator.Locator.{Locator}
 use Rattle.rtps_types.specs.Order.{octet_order}
-use Rattle.rtps_announcer.specs.declared.hearing.Ack.{Ack}
+use Rattle.rtps_announcer.specs.Ack.{AckView}
 use Rattle.rtps_announcer.specs.declared.hearing.Facts.{Facts}
 use Rattle.rtps_announcer.specs.declared.hearing.Hearing.{Hearing}
 use Rattle.rtps_announcer.specs.declared.hearing.Hearing.TheVariants.{Passes, Comes, Leaves, Acks, Joins, Parts}
@@ -190,28 +189,28 @@ answering beat [] false = beat ∷ []
 answering beat (x ∷ xs) final = x ∷ xs ++ beat ∷ []
 
 -- what a peer is answered
-abbrev pub reply : Rules → State → Peer → Ack → List Said
+abbrev pub reply : Rules → State → Peer → AckView → List Said
 reply r s peer a =
     answering (beat_of (now_of s))
     (merged (retelling s.changes s.gone peer.since (wanted r.again (length s.changes) a)))
     a.is_final
 
 -- the answer to an ACKNACK of who may be a peer; none if the ACKNACK isn't taken
-abbrev pub answer_by : Rules → GuidPrefix → Ack → State → Option Peer → Option (List Sending)
+abbrev pub answer_by : Rules → GuidPrefix → AckView → State → Option Peer → Option (List Sending)
 answer_by r p a s None = None
 answer_by r p a s (Some peer) =
     if is_new peer a then Some (to_one p peer.to (reply r s peer a)) else None
 
-abbrev pub answer_at : Rules → GuidPrefix → Ack → State → Option (List Sending)
+abbrev pub answer_at : Rules → GuidPrefix → AckView → State → Option (List Sending)
 answer_at r p a s = answer_by r p a s (lookup (is_of p) s.peers)
 
 -- a peer that acknowledges
-abbrev pub acknowledging : Rules → GuidPrefix → Ack → State → Option Peer → Peers
+abbrev pub acknowledging : Rules → GuidPrefix → AckView → State → Option Peer → Peers
 acknowledging r p a s None = s.peers
 acknowledging r p a s (Some peer) =
     set_value (is_of p) s.peers (acknowledged r (now_of s) a peer)
 
-abbrev pub acks_by : Rules → GuidPrefix → Ack → State → Option (List Sending) → Step
+abbrev pub acks_by : Rules → GuidPrefix → AckView → State → Option (List Sending) → Step
 acks_by r p a s None = quiet s
 acks_by r p a s (Some sends) = record {
   sends = sends;
@@ -222,7 +221,7 @@ acks_by r p a s (Some sends) = record {
 }
 
 -- an ACKNACK is answered if it is taken
-abbrev pub acks : Rules → GuidPrefix → Ack → State → Step
+abbrev pub acks : Rules → GuidPrefix → AckView → State → Step
 acks r p a s = acks_by r p a s (answer_at r p a s)
 
 -- ---- our readers come and go

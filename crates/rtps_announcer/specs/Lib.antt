@@ -1,3 +1,4 @@
+pub mod Ack
 pub mod Said
 pub mod Peer
 pub mod Telling
@@ -5,3 +6,9 @@ pub mod Held
 pub mod Announcing
 pub mod Standing
 pub mod Cuts
+pub mod Submessages
+pub mod Participant
+pub mod Acknack
+pub mod Hearing
+pub mod Context
+pub mod ParticipantParts

@@ -1,7 +1,7 @@
 -- A participant that was found: what is known of it, and when it is reminded (DDSI-RTPS 8.4.7,
 -- 8.4.9, 8.5.3.2).
 use Rattle.std.specs.Prelude.{ℕ, ◌+◌, ◌-◌, min, ℤ, int_lt, nat_le, nat_lt, Bool, true, false, ◌&&◌, ◌||◌, Option, Some, None, is_none, ◌==◌, if◌then◌else◌}
-use Rattle.rtps_announcer.specs.declared.hearing.Ack.{Ack}
+use Rattle.rtps_announcer.specs.Ack.{AckView}
 use Rattle.rtps_announcer.specs.declared.hearing.Facts.{Facts}
 use Rattle.rtps_announcer.specs.declared.now.Now.{Now}
 use Rattle.rtps_announcer.specs.declared.peer.Peer.{Peer}
@@ -56,13 +56,13 @@ is_above (Some last) count = int_lt last count
 
 -- An ACKNACK is taken if its count is new, or if its base is below what was acknowledged: then the
 -- peer has forgotten us, and begins anew.
-abbrev pub is_new : Peer → Ack → Bool
-is_new p a = is_above p.counted a.count || nat_lt a.missing.base p.base
+abbrev pub is_new : Peer → AckView → Bool
+is_new p a = is_above p.counted a.count || nat_lt a.base p.base
 
 -- once an ACKNACK is taken: a base beyond the next number counts as that one
-abbrev pub acknowledged : Rules → Now → Ack → Peer → Peer
+abbrev pub acknowledged : Rules → Now → AckView → Peer → Peer
 acknowledged r now a p = record p {
-  base = min a.missing.base (now.last + 1);
+  base = min a.base (now.last + 1);
   counted = Some a.count;
   told = now.moment;
   left = r.reminders;

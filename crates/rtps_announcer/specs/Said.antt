@@ -1,5 +1,5 @@
 -- What is said, and to whom (DDSI-RTPS 8.3.7, 8.5.3, 8.5.4).
-use Rattle.std.specs.Prelude.{ℕ, List, map}
+use Rattle.std.specs.Prelude.{List, map}
 use Rattle.rtps_types.specs.declared.identity.GuidPrefix.{GuidPrefix}
 use Rattle.rtps_types.specs.declared.locator.Locator.{Locator}
 use Rattle.rtps_announcer.specs.declared.now.Now.{Now}

@@ -1,9 +1,7 @@
 -- How the changes of our announcer of readers are told: as changes, or as irrelevant numbers
 -- (DDSI-RTPS 8.3.7.4, 8.5.4).
-use Rattle.std.specs.Prelude.{ℕ, ◌+◌, ◌-◌, ◌==◌, nat_le, nat_lt, List, [], ◌∷◌, filter, map, length, slice_get, take, Bool, true, false, not, ◌&&◌, Option, Some, None, if◌then◌else◌}
-use Rattle.rtps_types.specs.NumberSet.{members}
-use Rattle.rtps_types.specs.Sets.{sn_view}
-use Rattle.rtps_announcer.specs.declared.hearing.Ack.{Ack}
+use Rattle.std.specs.Prelude.{ℕ, ◌+◌, ◌-◌, ◌==◌, nat_le, nat_lt, List, [], ◌∷◌, filter, map, slice_get, take, Bool, false, not, Option, Some, None, if◌then◌else◌}
+use Rattle.rtps_announcer.specs.Ack.{AckView}
 use Rattle.rtps_announcer.specs.declared.said.Change.{Change}
 use Rattle.rtps_announcer.specs.declared.said.Change.TheVariants.{Asks, Ends}
 use Rattle.rtps_announcer.specs.declared.said.Said.{Said}
@@ -58,8 +56,8 @@ telling gone since n [] = []
 telling gone since n (c ∷ cs) = told_as gone since n c ∷ telling gone since (n + 1) cs
 
 -- the numbers of an ACKNACK that are sent again: of those that there are, the first `most`
-abbrev pub wanted : ℕ → ℕ → Ack → List ℕ
-wanted most last a = take most (filter (λ n. nat_le n last) (members (sn_view a.missing)))
+abbrev pub wanted : ℕ → ℕ → AckView → List ℕ
+wanted most last a = take most (filter (λ n. nat_le n last) a.asked)
 
 -- what is said of a number that a peer asks for, by the change with it
 abbrev pub told_if : List Bool → ℕ → ℕ → Option Change → Said

@@ -3,12 +3,15 @@
 ghost use Rattle.std.specs.Prelude.{◌≡◌, ◌∷◌, ◌++◌, [], List, IfOk, IsErr, OnErr, OnOk, length, true};
 ghost use Rattle.rtps_announcer.specs.declared.hearing.Hearing.{Hearing};
 ghost use Rattle.rtps_announcer.specs.Announcing.{farewell};
-ghost use Rattle.rtps_announcer.specs.Standing.{Heard, IsRefused, StandsAt};
+ghost use Rattle.rtps_announcer.specs.Hearing.{hearings_of};
+ghost use Rattle.rtps_announcer.specs.Standing.{Heard, HeardAll, IsRefused, IsSame, StandsAt};
 
+use crate::context::hearings;
 use crate::hearing::Hearing;
 use crate::rules::Rules;
 use crate::said::Sending;
 use crate::state::AnnouncerState;
+use rtps_types::{Datagram, GuidPrefix};
 use std::alloc::{AllocError, Allocator, Global};
 use std::marker::Model;
 
@@ -21,6 +24,7 @@ use std::marker::Model;
 /// later call is refused, and changes nothing.
 #[derive(Drop)]
 pub struct Announcer<A: Allocator = Global> {
+    own: GuidPrefix,
     rules: Rules,
     /// Whether a call was refused memory.
     failed: bool,
@@ -32,16 +36,24 @@ impl<A: Allocator> Model for Announcer<A> {
 
     ghost Value = { AnnouncerView };
 
-    ghost view = { λ a. record { rules = a.rules; failed = a.failed; state = a.state } };
+    ghost view = { λ a. record {
+      own = a.own;
+      rules = a.rules;
+      failed = a.failed;
+      state = a.state;
+    } };
 }
 
 impl<A: Allocator + Copy> Announcer<A> {
-    /// Returns an announcer that has heard nothing and has no readers. It takes no memory.
-    pub fn new(alloc: A, rules: Rules) -> Announcer<A>
+    /// Returns the announcer of the participant `own`, which has heard nothing and has no readers. It
+    /// takes no memory.
+    pub fn new(alloc: A, own: GuidPrefix, rules: Rules) -> Announcer<A>
+        ensures own { result.own ≡ own }
         ensures rules { result.rules ≡ rules }
         ensures stands { StandsAt [] result }
     {
         Announcer {
+            own,
             rules,
             failed: false,
             state: AnnouncerState::new(alloc),
@@ -63,7 +75,7 @@ impl<A: Allocator + Copy> Announcer<A> {
         ensures refused { OnErr result (IsRefused self.new sends.old.items sends.new.items) }
         ensures failed { self.old.failed ≡ true → IsErr result }
         ensures still { self.old.failed ≡ true → self.new ≡ self.old }
-        ensures rules { self.new.rules ≡ self.old.rules }
+        ensures same { IsSame self.old self.new }
     {
         if self.failed {
             return Err(AllocError);
@@ -71,6 +83,40 @@ impl<A: Allocator + Copy> Announcer<A> {
         // Failed until all is done: a `?` leaves it so.
         self.failed = true;
         let mut more = self.state.step(alloc, self.rules, hearing)?;
+        sends.append(&mut more)?;
+        self.failed = false;
+        Ok(())
+    }
+
+    /// Takes a datagram, and puts what is said by it at the end of `sends`: first its moment passes, as
+    /// by [`tick`](Announcer::tick), and then what it says is heard, as by
+    /// [`hearings`](crate::hearings). `AllocError` where memory is refused.
+    pub fn take(
+        &mut self,
+        alloc: A,
+        datagram: &Datagram<'_>,
+        sends: &mut Vec<Sending, A>,
+    ) -> Result<(), AllocError>
+        ensures heard { OnOk result (HeardAll
+            (hearings_of self.old.own datagram.now.moment datagram.now.bytes.now)
+            self.old self.new sends.old.items sends.new.items) }
+        ensures stands { (earlier : List Hearing) → StandsAt earlier self.old
+            → OnOk result (StandsAt (earlier
+            ++ hearings_of self.old.own datagram.now.moment datagram.now.bytes.now) self.new) }
+        ensures refused { OnErr result (IsRefused self.new sends.old.items sends.new.items) }
+        ensures failed { self.old.failed ≡ true → IsErr result }
+        ensures still { self.old.failed ≡ true → self.new ≡ self.old }
+        ensures same { IsSame self.old self.new }
+    {
+        if self.failed {
+            return Err(AllocError);
+        }
+        // Failed until all is done.
+        self.failed = true;
+        let heard = hearings(alloc, self.own, datagram.bytes)?;
+        let mut more = self
+            .state
+            .take(alloc, self.rules, datagram.moment, heard.as_slice())?;
         sends.append(&mut more)?;
         self.failed = false;
         Ok(())
@@ -92,7 +138,7 @@ impl<A: Allocator + Copy> Announcer<A> {
         ensures refused { OnErr result (IsRefused self.new sends.old.items sends.new.items) }
         ensures failed { self.old.failed ≡ true → IsErr result }
         ensures still { self.old.failed ≡ true → self.new ≡ self.old }
-        ensures rules { self.new.rules ≡ self.old.rules }
+        ensures same { IsSame self.old self.new }
     {
         self.hear(alloc, &Hearing::Passes(moment), sends)
     }
@@ -108,7 +154,7 @@ impl<A: Allocator + Copy> Announcer<A> {
         ensures refused { OnErr result (IsRefused self.new sends.old.items sends.new.items) }
         ensures failed { self.old.failed ≡ true → IsErr result }
         ensures still { self.old.failed ≡ true → self.new ≡ self.old }
-        ensures rules { self.new.rules ≡ self.old.rules }
+        ensures same { IsSame self.old self.new }
     {
         match self.state.next_rank() {
             Some(rank) => {
@@ -137,7 +183,7 @@ impl<A: Allocator + Copy> Announcer<A> {
         ensures refused { OnErr result (IsRefused self.new sends.old.items sends.new.items) }
         ensures failed { self.old.failed ≡ true → IsErr result }
         ensures still { self.old.failed ≡ true → self.new ≡ self.old }
-        ensures rules { self.new.rules ≡ self.old.rules }
+        ensures same { IsSame self.old self.new }
     {
         self.hear(alloc, &Hearing::Parts(rank), sends)
     }

@@ -1,7 +1,8 @@
 //! What the announcer hears.
 
+use crate::ack::Ack;
 use crate::locators::PeerLocators;
-use rtps_types::{GuidPrefix, SnSet};
+use rtps_types::GuidPrefix;
 
 /// What a participant announces of itself (DDSI-RTPS 8.5.3.2).
 #[derive(Debug, Drop)]
@@ -12,16 +13,6 @@ pub struct Facts {
     pub lease: Option<u64>,
     /// Whether it has a reader of readers (DDSI-RTPS 9.3.2.12).
     pub hears: bool,
-}
-
-/// The answer of a participant's reader of readers to our announcer of readers (DDSI-RTPS 8.3.7.1).
-#[derive(Clone, Copy, Debug)]
-pub struct Ack {
-    /// All numbers below its base are acknowledged, and its members are asked for.
-    pub missing: SnSet,
-    pub count: i32,
-    /// No answer is wanted.
-    pub is_final: bool,
 }
 
 /// What the announcer hears: a moment that passes, what another participant says, and which readers

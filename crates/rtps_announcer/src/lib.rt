@@ -2,11 +2,15 @@
 //! 8.4.7, 8.4.9, 8.5.3, 8.5.4).
 #![tactic(auto)]
 
+mod ack;
+mod acknack;
 mod announcer;
+mod context;
 mod hearing;
 pub mod laws;
 mod locators;
 mod now;
+mod participant;
 mod peer;
 mod peers;
 mod rules;
@@ -14,8 +18,10 @@ mod said;
 mod state;
 mod telling;
 
+pub use ack::Ack;
 pub use announcer::Announcer;
-pub use hearing::{Ack, Facts, Hearing};
+pub use context::hearings;
+pub use hearing::{Facts, Hearing};
 pub use locators::PeerLocators;
 pub use rules::Rules;
 pub use said::{Change, Destination, Said, Sending};

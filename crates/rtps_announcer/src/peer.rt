@@ -3,7 +3,8 @@
 ghost use Rattle.std.specs.Prelude.{◌≡◌};
 ghost use Rattle.rtps_announcer.specs.Peer as peer;
 
-use crate::hearing::{Ack, Facts};
+use crate::ack::Ack;
+use crate::hearing::Facts;
 use crate::locators::PeerLocators;
 use crate::now::Now;
 use crate::rules::Rules;
@@ -98,10 +99,10 @@ impl Peer {
         ensures { result ≡ peer.is_new self.now ack.now }
     {
         let is_above = match self.counted {
-            Some(count) => count < ack.count,
+            Some(count) => count < ack.count(),
             None => true,
         };
-        is_above || ack.missing.base < self.base
+        is_above || ack.base() < self.base
     }
 
     /// Whether it never acknowledged anything, and has no reminders left.
@@ -115,8 +116,8 @@ impl Peer {
     pub fn acknowledge(&mut self, rules: Rules, now: Now, ack: &Ack)
         ensures { self.new ≡ peer.acknowledged rules now ack.now self.old }
     {
-        self.base = ack.missing.base.min(now.last.saturating_add(1));
-        self.counted = Some(ack.count);
+        self.base = ack.base().min(now.last.saturating_add(1));
+        self.counted = Some(ack.count());
         self.told = now.moment;
         self.left = rules.reminders;
     }

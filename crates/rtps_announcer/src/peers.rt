@@ -11,7 +11,8 @@ ghost use Rattle.rtps_announcer.specs.Peer as spec;
 ghost use Rattle.rtps_announcer.specs.Said.{to_peer};
 ghost use Rattle.rtps_announcer.specs.Held.{when};
 
-use crate::hearing::{Ack, Facts};
+use crate::ack::Ack;
+use crate::hearing::Facts;
 use crate::now::Now;
 use crate::peer::Peer;
 use crate::rules::Rules;

@@ -1,12 +1,14 @@
 //! What the announcer is after what it heard, and each of its steps.
 
-ghost use Rattle.std.specs.Prelude.{◌≡◌, ◌∷◌, [], IfOk, IfSome, OnOk, Some, length};
+ghost use Rattle.std.specs.Prelude.{◌≡◌, ◌∷◌, ◌++◌, [], IfOk, IfSome, OnOk, Some, length};
 ghost use Rattle.std.specs.Map.{lookup};
 ghost use Rattle.std.specs.Option.{option_map};
+ghost use Rattle.rtps_announcer.specs.declared.hearing.Hearing.{Hearing};
 ghost use Rattle.rtps_announcer.specs.declared.peer.Peer.{Peer};
 ghost use Rattle.rtps_announcer.specs.Announcing as announcing;
 
-use crate::hearing::{Ack, Facts, Hearing};
+use crate::ack::Ack;
+use crate::hearing::{Facts, Hearing};
 use crate::now::Now;
 use crate::peer::Peer;
 use crate::peers::{
@@ -253,7 +255,7 @@ impl<A: Allocator + Copy> AnnouncerState<A> {
         let mut said = Vec::new(alloc);
         self.record()
             .tell_again(peer.since, numbers.as_slice(), &mut said)?;
-        if !said.is_empty() || !ack.is_final {
+        if !said.is_empty() || !ack.is_final() {
             said.push(now.beat())?;
         }
         Ok(said)
@@ -391,6 +393,44 @@ impl<A: Allocator + Copy> AnnouncerState<A> {
             },
             Hearing::Parts(rank) => self.part(alloc, rules, *rank),
         }
+    }
+
+    /// Takes these hearings, one after the other, and puts what is sent behind `sends`.
+    fn run(
+        &mut self,
+        alloc: A,
+        rules: Rules,
+        hearings: &[Hearing],
+        sends: &mut Vec<Sending, A>,
+    ) -> Result<(), AllocError>
+        ensures sent { OnOk result (sends.new.items ≡ sends.old.items
+            ++ announcing.sends_run rules self.old hearings.now) }
+        ensures after { OnOk result
+            (self.new ≡ announcing.state_run rules self.old hearings.now) }
+    {
+        for hearing in hearings {
+            let mut more = self.step(alloc, rules, hearing)?;
+            sends.append(&mut more)?;
+        }
+        Ok(())
+    }
+
+    /// Lets a moment pass, then takes these hearings, and returns what is sent.
+    pub fn take(
+        &mut self,
+        alloc: A,
+        rules: Rules,
+        moment: u64,
+        hearings: &[Hearing],
+    ) -> Result<Vec<Sending, A>, AllocError>
+        ensures sent { IfOk result (λ sends. sends.items
+            ≡ announcing.sends_run rules self.old (Hearing.Passes moment ∷ hearings.now)) }
+        ensures after { OnOk result (self.new
+            ≡ announcing.state_run rules self.old (Hearing.Passes moment ∷ hearings.now)) }
+    {
+        let mut sends = self.pass(alloc, rules, moment)?;
+        self.run(alloc, rules, hearings, &mut sends)?;
+        Ok(sends)
     }
 
     /// Returns the farewell, to everyone and to each peer.

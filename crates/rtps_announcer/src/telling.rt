@@ -6,7 +6,7 @@ ghost use Rattle.rtps_announcer.specs.Said.{to_one};
 ghost use Rattle.rtps_announcer.specs.Telling as telling;
 ghost use Rattle.rtps_announcer.specs.Held.{held_back};
 
-use crate::hearing::Ack;
+use crate::ack::Ack;
 use crate::locators::PeerLocators;
 use crate::said::{Change, Said, Sending};
 use rtps_types::GuidPrefix;
@@ -153,7 +153,7 @@ pub(crate) fn wanted<A: Allocator>(
     ensures { IfOk result (λ numbers. numbers.items ≡ telling.wanted most last ack.now) }
 {
     let mut numbers = Vec::new(alloc);
-    let mut left = ack.missing.members();
+    let mut left = ack.asked();
     'left: while let Some(number) = left.next() {
         if numbers.len() >= most {
             break;

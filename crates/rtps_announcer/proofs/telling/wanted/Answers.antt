@@ -1,5 +1,5 @@
-use Rattle.std.proofs.Common.{◌≡◌, ◌+◌, ◌-◌, ℕ, [], ◌∷◌, ◌++◌, ap, ◌∙◌, arith, rules, subst, sym, take}
-use Rattle.std.specs.Prelude.{filter, nat_le, vec_len}
+use Rattle.std.proofs.Common.{◌≡◌, ◌+◌, [], ◌∷◌, ◌++◌, rules}
+use Rattle.std.specs.Prelude.{vec_len}
 use Rattle.rtps_announcer.specs.Telling.{wanted}
 use Rattle.rtps_announcer.proofs.Lists.{wanted_more}
 use Rattle.rtps_announcer.proofs.telling.wanted.Goals as goal

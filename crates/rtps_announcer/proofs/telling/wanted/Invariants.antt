@@ -1,7 +1,5 @@
 use Rattle.std.proofs.Common.{◌≡◌, ◌-◌, ◌++◌, length}
 use Rattle.std.specs.Prelude.{filter, nat_le, take, vec_len}
-use Rattle.rtps_types.specs.NumberSet.{members}
-use Rattle.rtps_types.specs.Sets.{sn_view}
 use Rattle.rtps_announcer.specs.Telling.{wanted}
 use Rattle.rtps_announcer.proofs.telling.wanted.Given as goal
 
