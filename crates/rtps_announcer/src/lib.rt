@@ -17,6 +17,8 @@ mod rules;
 mod said;
 mod state;
 mod telling;
+#[cfg(test)]
+mod tests;
 
 pub use ack::Ack;
 pub use announcer::Announcer;
