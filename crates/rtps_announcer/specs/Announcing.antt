@@ -4,10 +4,8 @@ use Rattle.std.specs.Prelude.{ℕ, ◌+◌, ◌-◌, ◌%◌, ◌^◌, max, nat_
 use Rattle.std.specs.BTreeMap.{insert_entry}
 use Rattle.std.specs.List.{flat_map, list_any}
 use Rattle.std.specs.Map.{lookup, remove_entry, set_value}
-use Rattle.std.specs.Ordering.{is_eq}
-use Rattle.std.specs.declared.cmp.Ordering.{Ordering}
 use Rattle.rtps_types.specs.declared.identity.GuidPrefix.{GuidPrefix}
-use Rattle.rtps_types.specs.Order.{octet_order}
+use Rattle.rtps_discovery.specs.Known.{prefix_order, same_prefix}
 use Rattle.rtps_announcer.specs.Ack.{AckView}
 use Rattle.rtps_announcer.specs.declared.hearing.Facts.{Facts}
 use Rattle.rtps_announcer.specs.declared.hearing.Hearing.{Hearing}
@@ -24,15 +22,9 @@ use Rattle.rtps_announcer.specs.Said.{beat_of, to_everyone, to_one, to_peer}
 use Rattle.rtps_announcer.specs.Peer.{acknowledged, has_lapsed, is_late, is_mute, is_new, newcomer, reminded, renewed, told_more}
 use Rattle.rtps_announcer.specs.Telling.{merged, retelling, telling, wanted}
 
+-- the peers, in the order of the octets of their prefixes
 abbrev pub Peers : Type 0
 Peers = List (GuidPrefix × Peer)
-
--- peers are in the order of the octets of their prefixes
-abbrev pub prefix_order : GuidPrefix → GuidPrefix → Ordering
-prefix_order p q = octet_order p.0 q.0
-
-abbrev pub is_of : GuidPrefix → GuidPrefix → Bool
-is_of p q = is_eq (prefix_order p q)
 
 -- what the announcer is after what it heard
 pub record State : Type 0 where
@@ -135,7 +127,7 @@ oldest chosen (e ∷ es) =
 
 abbrev pub without : Option (GuidPrefix × ℕ) → Peers → Option Peers
 without None peers = None
-without (Some mute) peers = Some (remove_entry (is_of mute.0) peers)
+without (Some mute) peers = Some (remove_entry (same_prefix mute.0) peers)
 
 -- The peers with room for one more: where all places are taken, one that is mute loses its own.
 -- None if there is no room.
@@ -166,8 +158,8 @@ abbrev pub heard_again : Rules → GuidPrefix → Facts → State → Peer → S
 heard_again r p f s peer = quiet (record s {
   peers =
       if f.hears
-      then set_value (is_of p) s.peers (renewed r (now_of s) f peer)
-      else remove_entry (is_of p) s.peers;
+      then set_value (same_prefix p) s.peers (renewed r (now_of s) f peer)
+      else remove_entry (same_prefix p) s.peers;
 })
 
 abbrev pub comes_by : Rules → GuidPrefix → Facts → State → Option Peer → Step
@@ -175,10 +167,10 @@ comes_by r p f s (Some peer) = heard_again r p f s peer
 comes_by r p f s None = if f.hears then found r p f s (room r.peers s.peers) else quiet s
 
 abbrev pub comes : Rules → GuidPrefix → Facts → State → Step
-comes r p f s = comes_by r p f s (lookup (is_of p) s.peers)
+comes r p f s = comes_by r p f s (lookup (same_prefix p) s.peers)
 
 abbrev pub leaves : GuidPrefix → State → Step
-leaves p s = quiet (record s { peers = remove_entry (is_of p) s.peers })
+leaves p s = quiet (record s { peers = remove_entry (same_prefix p) s.peers })
 
 -- ---- a peer answers
 
@@ -202,13 +194,13 @@ answer_by r p a s (Some peer) =
     if is_new peer a then Some (to_one p peer.to (reply r s peer a)) else None
 
 abbrev pub answer_at : Rules → GuidPrefix → AckView → State → Option (List Sending)
-answer_at r p a s = answer_by r p a s (lookup (is_of p) s.peers)
+answer_at r p a s = answer_by r p a s (lookup (same_prefix p) s.peers)
 
 -- a peer that acknowledges
 abbrev pub acknowledging : Rules → GuidPrefix → AckView → State → Option Peer → Peers
 acknowledging r p a s None = s.peers
 acknowledging r p a s (Some peer) =
-    set_value (is_of p) s.peers (acknowledged r (now_of s) a peer)
+    set_value (same_prefix p) s.peers (acknowledged r (now_of s) a peer)
 
 abbrev pub acks_by : Rules → GuidPrefix → AckView → State → Option (List Sending) → Step
 acks_by r p a s None = quiet s
@@ -216,7 +208,7 @@ acks_by r p a s (Some sends) = record {
   sends = sends;
   state = record s {
     count = count_if (is_some_sent sends) s.count;
-    peers = acknowledging r p a s (lookup (is_of p) s.peers);
+    peers = acknowledging r p a s (lookup (same_prefix p) s.peers);
   };
 }
 

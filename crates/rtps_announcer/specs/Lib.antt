@@ -12,3 +12,4 @@ pub mod Acknack
 pub mod Hearing
 pub mod Context
 pub mod ParticipantParts
+pub mod Told

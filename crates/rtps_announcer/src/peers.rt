@@ -6,6 +6,7 @@ ghost use Rattle.std.specs.List.{flat_map, list_any};
 ghost use Rattle.std.specs.Map.{lookup, remove_entry, set_value};
 ghost use Rattle.rtps_types.specs.declared.identity.GuidPrefix.{GuidPrefix};
 ghost use Rattle.rtps_announcer.specs.declared.peer.Peer.{Peer};
+ghost use Rattle.rtps_discovery.specs.Known.{same_prefix};
 ghost use Rattle.rtps_announcer.specs.Announcing as announcing;
 ghost use Rattle.rtps_announcer.specs.Peer as spec;
 ghost use Rattle.rtps_announcer.specs.Said.{to_peer};
@@ -125,8 +126,8 @@ pub(crate) fn renew<A: Allocator>(
     now: Now,
     facts: &Facts,
 )
-    ensures { (peer : Peer) → lookup (announcing.is_of prefix) peers.old.entries ≡ Some peer
-        → peers.new.entries ≡ set_value (announcing.is_of prefix) peers.old.entries
+    ensures { (peer : Peer) → lookup (same_prefix prefix) peers.old.entries ≡ Some peer
+        → peers.new.entries ≡ set_value (same_prefix prefix) peers.old.entries
         (spec.renewed rules now facts.now peer) }
 {
     if let Some(peer) = peers.get_mut(&prefix) {
@@ -142,8 +143,8 @@ pub(crate) fn acknowledge<A: Allocator>(
     now: Now,
     ack: &Ack,
 )
-    ensures { (peer : Peer) → lookup (announcing.is_of prefix) peers.old.entries ≡ Some peer
-        → peers.new.entries ≡ set_value (announcing.is_of prefix) peers.old.entries
+    ensures { (peer : Peer) → lookup (same_prefix prefix) peers.old.entries ≡ Some peer
+        → peers.new.entries ≡ set_value (same_prefix prefix) peers.old.entries
         (spec.acknowledged rules now ack.now peer) }
 {
     if let Some(peer) = peers.get_mut(&prefix) {

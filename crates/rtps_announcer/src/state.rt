@@ -5,6 +5,7 @@ ghost use Rattle.std.specs.Map.{lookup};
 ghost use Rattle.std.specs.Option.{option_map};
 ghost use Rattle.rtps_announcer.specs.declared.hearing.Hearing.{Hearing};
 ghost use Rattle.rtps_announcer.specs.declared.peer.Peer.{Peer};
+ghost use Rattle.rtps_discovery.specs.Known.{same_prefix};
 ghost use Rattle.rtps_announcer.specs.Announcing as announcing;
 
 use crate::ack::Ack;
@@ -197,7 +198,7 @@ impl<A: Allocator + Copy> AnnouncerState<A> {
 
     /// Takes what a peer announces of itself now.
     fn hear_again(&mut self, rules: Rules, prefix: GuidPrefix, facts: &Facts)
-        ensures { (peer : Peer) → lookup (announcing.is_of prefix) self.old.peers ≡ Some peer
+        ensures { (peer : Peer) → lookup (same_prefix prefix) self.old.peers ≡ Some peer
             → self.new ≡ (announcing.heard_again rules prefix facts.now self.old peer).state }
     {
         let now = self.now();
