@@ -34,7 +34,7 @@ use Rattle.rtps_announcer.proofs.Told.{any_left, any_right, gone_more, gone_one,
 
 -- ---- what is said to a participant
 
-itself : (p : GuidPrefix) → same_prefix p p ≡ true
+pub itself : (p : GuidPrefix) → same_prefix p p ≡ true
 itself p = by_order (prefix_order p p) refl (prefix_total.antisymm p p)
   where
     by_order : (o : Ordering) → prefix_order p p ≡ o → prefix_order p p ≡ ordering_reverse (prefix_order p p) → is_eq (prefix_order p p) ≡ true
@@ -42,7 +42,7 @@ itself p = by_order (prefix_order p p) refl (prefix_total.antisymm p p)
     by_order Equal e f = rw e refl
     by_order Greater e f = let bad : Greater ≡ Less = rw e at f in absurd cc
 
-said_to-append : (p : GuidPrefix) (xs ys : List Sending) → said_to p (xs ++ ys) ≡ said_to p xs ++ said_to p ys
+pub said_to-append : (p : GuidPrefix) (xs ys : List Sending) → said_to p (xs ++ ys) ≡ said_to p xs ++ said_to p ys
 said_to-append p [] ys = refl
 said_to-append p (x ∷ xs) ys = by_case (is_to p x.to) (said_to-append p xs ys)
   where
@@ -51,7 +51,7 @@ said_to-append p (x ∷ xs) ys = by_case (is_to p x.to) (said_to-append p xs ys)
     by_case true h = ap (λ (l : List Said). x.said ∷ l) h
     by_case false h = h
 
-said_to-one : (p : GuidPrefix) (to : List Locator) (xs : List Said) → said_to p (to_one p to xs) ≡ xs
+pub said_to-one : (p : GuidPrefix) (to : List Locator) (xs : List Said) → said_to p (to_one p to xs) ≡ xs
 said_to-one p to [] = refl
 said_to-one p to (x ∷ xs) = rw (itself p) (ap (λ (l : List Said). x ∷ l) (said_to-one p to xs))
 
@@ -67,10 +67,9 @@ news_reach now c front (e ∷ es) =
     let rest = flat_map (news_to now c) es in
     let said : List Said = Told now.last c ∷ beat_of now ∷ [] in
     let here : list_any (is_told now.last c) (said_to e.0 own) ≡ true = rw (said_to-one e.0 e.1.to said, told_itself now.last c) refl in
-    let there : list_any (is_told now.last c) (said_to e.0 own ++ said_to e.0 rest) ≡ true = any_left now.last c (said_to e.0 own) (said_to e.0 rest) here in
-    (
+    let there : list_any (is_told now.last c) (said_to e.0 own ++ said_to e.0 rest) ≡ true = any_left now.last c (said_to e.0 own) (said_to e.0 rest) here in (
       ap (list_any (is_told now.last c)) (said_to-append e.0 front (own ++ rest) ∙ ap (λ (l : List Said). said_to e.0 front ++ l) (said_to-append e.0 own rest))
-      ∙ any_right now.last c (said_to e.0 front) (said_to e.0 own ++ said_to e.0 rest) there,
+          ∙ any_right now.last c (said_to e.0 front) (said_to e.0 own ++ said_to e.0 rest) there,
       subst (λ (l : List Sending). Reached now.last c (λ q. said_to q l) es) (append_assoc front own rest) (news_reach now c (front ++ own) es),
     )
 
@@ -169,8 +168,8 @@ news_told : (gone later : List Bool) (cs : List Change) (c : Change) (said more 
 news_told gone later cs c said more f keeps stays [] told reached = tt
 news_told gone later cs c said more f keeps stays (e ∷ es) told reached = (
   subst (λ (n : ℕ). AreTold later n (said e.0 ++ more e.0) 1 (cs ++ c ∷ [])) (sym (keeps e.1))
-  (told_one_more gone later e.1.since (said e.0 ++ more e.0) c 1 cs stays (said_more gone e.1.since (said e.0) (more e.0) 1 cs told.0)
-  (any_right (1 + length cs) c (said e.0) (more e.0) (subst (λ (n : ℕ). list_any (is_told n c) (more e.0) ≡ true) (omega arith) reached.0))),
+      (told_one_more gone later e.1.since (said e.0 ++ more e.0) c 1 cs stays (said_more gone e.1.since (said e.0) (more e.0) 1 cs told.0)
+      (any_right (1 + length cs) c (said e.0) (more e.0) (subst (λ (n : ℕ). list_any (is_told n c) (more e.0) ≡ true) (omega arith) reached.0))),
   news_told gone later cs c said more f keeps stays es told.1 reached.1,
 )
 
@@ -251,8 +250,8 @@ one_found r s p f said left none hears is told =
     let sends : (step r (Comes p f) s).sends ≡ to_one p f.to (welcome s) = rw (none, hears, is) refl in
     let found_by : (q : GuidPrefix) → finds r s (Comes p f) q ≡ same_prefix p q = λ q. rw (none, hears, is) refl in
     let own : once_come r s p f said p ≡ welcome s =
-        ap (λ (b : Bool). said_then b (said p) (said_to p (step r (Comes p f) s).sends)) (found_by p ∙ itself p)
-        ∙ ap (said_to p) sends ∙ said_to-one p f.to (welcome s) in
+    ap (λ (b : Bool). said_then b (said p) (said_to p (step r (Comes p f) s).sends)) (found_by p ∙ itself p)
+    ∙ ap (said_to p) sends ∙ said_to-one p f.to (welcome s) in
     let far : Apart p left = room_keeps (Apart p) r.peers s.peers left (apart p s.peers none) (λ test. remove_apart p test s.peers (apart p s.peers none)) is in
     let kept : EachIsTold s.gone s.changes said left = room_keeps (EachIsTold s.gone s.changes said) r.peers s.peers left told (λ test. remove_told s.gone s.changes said test s.peers told) is in
     insert_told s.gone s.changes (once_come r s p f said) p (newcomer r (now_of s) f)

@@ -1,7 +1,10 @@
 pub mod AllTold
 pub mod Answering
+pub mod Bounds
+pub mod Concerned
 pub mod Cuts
 pub mod Behind
+pub mod Few
 pub mod Lists
 pub mod Opened
 pub mod Running

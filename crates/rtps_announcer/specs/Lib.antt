@@ -13,3 +13,5 @@ pub mod Hearing
 pub mod Context
 pub mod ParticipantParts
 pub mod Told
+pub mod Bounds
+pub mod Concerned

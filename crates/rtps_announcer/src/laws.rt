@@ -1,5 +1,7 @@
 //! What follows from the definitions.
 
+ghost use Rattle.rtps_announcer.specs.Bounds.{BoundedSends, FewPeers};
+ghost use Rattle.rtps_announcer.specs.Concerned.{OnlyAsked, OnlyConcerned, Reminded};
 ghost use Rattle.rtps_announcer.specs.Cuts.{EveryCut};
 ghost use Rattle.rtps_announcer.specs.Submessages.{ReadAlike};
 ghost use Rattle.rtps_announcer.specs.Told.{AllTold};
@@ -20,4 +22,31 @@ pub fn read_alike()
 /// of.
 pub fn all_told()
     ensures { AllTold }
+{}
+
+/// Only changes that concern a participant are said to it, when it is found and when it asks: so
+/// nothing of a reader of ours that has gone, but its end to who may have heard of it.
+pub fn only_concerned()
+    ensures { OnlyConcerned }
+{}
+
+/// An ACKNACK is answered to its participant alone, and by nothing but what it asked for and a
+/// HEARTBEAT.
+pub fn only_asked()
+    ensures { OnlyAsked }
+{}
+
+/// At each moment a HEARTBEAT goes to each peer that stays and has to be reminded.
+pub fn reminded()
+    ensures { Reminded }
+{}
+
+/// What is sent at one hearing is bounded: so nobody makes us send without end.
+pub fn bounded_sends()
+    ensures { BoundedSends }
+{}
+
+/// There are never more peers than the rules allow, whoever announces itself.
+pub fn few_peers()
+    ensures { FewPeers }
 {}
