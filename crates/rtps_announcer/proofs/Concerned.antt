@@ -1,9 +1,10 @@
 -- What is said to whom.
-use Rattle.std.proofs.Common.{◌≡◌, ℕ, zero, suc, ◌+◌, ◌-◌, Bool, true, false, List, [], ◌∷◌, ◌++◌, length, filter, take, Option, Some, None, refl, ap, ◌∙◌, subst, append_assoc, eq-eqb}
+use Rattle.std.proofs.Common.{arith, ◌≡◌, ℕ, zero, suc, ◌+◌, ◌-◌, Bool, true, false, List, [], ◌∷◌, ◌++◌, length, filter, take, Option, Some, None, refl, ap, ◌∙◌, subst, append_assoc, eq-eqb}
 use Rattle.std.specs.Prelude.{◌||◌, ◌==◌, nat_le, if◌then◌else◌, slice_get}
 use Rattle.std.specs.List.{flat_map, list_any}
 use Rattle.std.specs.Map.{lookup}
 use Rattle.std.proofs.lemmas.List.Folds.{list_any-append}
+use Rattle.std.proofs.lemmas.Option.{slice_get_past}
 use Rattle.rtps_types.specs.declared.identity.GuidPrefix.{GuidPrefix}
 use Rattle.rtps_types.specs.declared.locator.Locator.{Locator}
 use Rattle.rtps_discovery.specs.Known.{same_prefix}
@@ -12,6 +13,7 @@ use Rattle.rtps_announcer.specs.declared.now.Now.{Now}
 use Rattle.rtps_announcer.specs.declared.peer.Peer.{Peer}
 use Rattle.rtps_announcer.specs.declared.rules.Rules.{Rules}
 use Rattle.rtps_announcer.specs.declared.said.Change.{Change}
+use Rattle.rtps_announcer.specs.declared.said.Change.TheVariants.{Asks}
 use Rattle.rtps_announcer.specs.declared.said.Said.{Said}
 use Rattle.rtps_announcer.specs.declared.said.Said.TheVariants.{Bye, Hello, Told, Void, Beat}
 use Rattle.rtps_announcer.specs.declared.said.Sending.{Sending}
@@ -22,6 +24,7 @@ use Rattle.rtps_announcer.specs.Said.{beat_of, to_one}
 use Rattle.rtps_announcer.specs.Telling.{before, concerns, merged, retelling, telling, told_as, told_if, wanted, with_void}
 use Rattle.rtps_announcer.specs.Told.{said_to}
 use Rattle.rtps_announcer.proofs.AllTold.{itself, said_to-append, said_to-one}
+use Rattle.rtps_announcer.proofs.Told.{gone_more}
 
 -- ---- what concerns whom
 
@@ -76,8 +79,14 @@ answering_concerned gone since last count [] true h = tt
 answering_concerned gone since last count [] false h = (tt, tt)
 answering_concerned gone since last count (x ∷ xs) final h = (h.0, more_concerned gone since last count xs h.1)
 
+came : (gone : List Bool) (since n : ℕ) → concerns (gone ++ false ∷ []) since n (Asks (length gone)) ≡ true
+came gone since n =
+    let past : slice_get gone (length gone) ≡ None = slice_get_past gone (length gone) (omega arith) in
+    rw (gone_more gone (length gone), past) refl
+
 pub only_concerned : OnlyConcerned
 only_concerned = record {
+  came = came;
   found = λ s. (
     tt,
     (

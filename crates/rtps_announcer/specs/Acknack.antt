@@ -12,8 +12,8 @@ use Rattle.rtps_discovery.specs.Known.{subscriptions_reader, subscriptions_write
 use Rattle.rtps_announcer.specs.declared.hearing.Hearing.{Hearing}
 use Rattle.rtps_announcer.specs.declared.hearing.Hearing.TheVariants.{Acks}
 
--- A set of sequence numbers, as in other submessages; but a base of 0 without bits is taken, as 1: a
--- reader that has nothing may begin so.
+-- A set of sequence numbers, as in other submessages; but a base of 0 without bits is taken, as 1:
+-- a reader that has nothing may begin so.
 unfoldable pub missing_at : Endian → List ℕ → ℕ → Option NumberSet
 missing_at e octets at = do
   base ← natural_at e octets at

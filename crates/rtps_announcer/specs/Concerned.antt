@@ -1,10 +1,11 @@
 -- What is said to whom: what concerns it, what it asked for, and what it hasn't acknowledged yet.
-use Rattle.std.specs.Prelude.{◌≡◌, ℕ, ◌==◌, List, [], ◌∷◌, length, Bool, true, false}
+use Rattle.std.specs.Prelude.{◌≡◌, ℕ, ◌==◌, List, [], ◌∷◌, ◌++◌, length, Bool, true, false}
 use Rattle.std.specs.List.{list_any}
 use Rattle.rtps_types.specs.declared.identity.GuidPrefix.{GuidPrefix}
 use Rattle.rtps_announcer.specs.Ack.{AckView}
 use Rattle.rtps_announcer.specs.declared.peer.Peer.{Peer}
 use Rattle.rtps_announcer.specs.declared.rules.Rules.{Rules}
+use Rattle.rtps_announcer.specs.declared.said.Change.TheVariants.{Asks}
 use Rattle.rtps_announcer.specs.declared.said.Said.{Said}
 use Rattle.rtps_announcer.specs.declared.said.Said.TheVariants.{Bye, Hello, Told, Void, Beat}
 use Rattle.rtps_announcer.specs.declared.said.Sending.{Sending}
@@ -25,9 +26,11 @@ abbrev pub AreConcerned : List Bool → ℕ → List Said → Type 0
 AreConcerned gone since [] = Unit {0}
 AreConcerned gone since (x ∷ xs) = IsConcerned gone since x × AreConcerned gone since xs
 
--- To who is found and to who asks only changes are said that concern it then: so nothing of a reader
--- that has gone, but its end to who may have heard of it.
+-- A reader that comes concerns everyone. To who is found and to who asks only changes are said that
+-- concern it then: so nothing of a reader that has gone, but its end to who may have heard of it.
 pub record OnlyConcerned : Type 0 where
+  pub came : (gone : List Bool) (since n : ℕ)
+      → concerns (gone ++ false ∷ []) since n (Asks (length gone)) ≡ true
   pub found : (s : State) → AreConcerned s.gone (length s.changes) (welcome s)
   pub answered : (r : Rules) (s : State) (p : Peer) (a : AckView)
       → AreConcerned s.gone p.since (reply r s p a)
@@ -72,8 +75,8 @@ EachIsReminded r s sends (e ∷ es) =
     (is_late r (now_of s) e.1 ≡ true → list_any is_beat (said_to e.0 sends) ≡ true)
     × EachIsReminded r s sends es
 
--- At a moment a HEARTBEAT goes to each peer that stays, hasn't acknowledged all, has reminders left,
--- and was told or reminded long enough ago.
+-- At a moment a HEARTBEAT goes to each peer that stays, hasn't acknowledged all, has reminders
+-- left, and was told or reminded long enough ago.
 abbrev pub Reminded : Type 0
 Reminded = (r : Rules) (m : ℕ) (s : State)
     → EachIsReminded r (at_moment m s) (passes r m s).sends (at_moment m s).peers

@@ -23,8 +23,8 @@ impl Model for Ack {
 }
 
 impl Ack {
-    /// Returns an ACKNACK: all numbers below the base of `missing` are acknowledged, and its members
-    /// are asked for. No answer is wanted where `is_final`.
+    /// Returns an ACKNACK: all numbers below the base of `missing` are acknowledged, and its
+    /// members are asked for. No answer is wanted where `is_final`.
     pub fn new(missing: SnSet, count: i32, is_final: bool) -> Ack
         ensures { result ≡ ack_with missing count is_final }
     {

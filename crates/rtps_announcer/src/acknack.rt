@@ -41,7 +41,8 @@ fn get_entity(octets: &[u8], at: usize) -> Option<EntityId>
     Some(EntityId(get_octets(octets, at)?))
 }
 
-/// Returns the `count` words at `at`, with zeros after them, or `None` if not all of them are there.
+/// Returns the `count` words at `at`, with zeros after them, or `None` if not all of them are
+/// there.
 fn get_words(octets: &[u8], at: usize, count: usize, endian: Endian) -> Option<[u32; 8]>
     requires few { count ≤ 8 }
     requires there { at ≤ length octets.now }
@@ -54,8 +55,8 @@ fn get_words(octets: &[u8], at: usize, count: usize, endian: Endian) -> Option<[
     Some(words)
 }
 
-/// Returns the set at `at`. A base of 0 without bits counts as 1: a reader that has nothing may begin
-/// so.
+/// Returns the set at `at`. A base of 0 without bits counts as 1: a reader that has nothing may
+/// begin so.
 #[tactic(auto, unfolding(crate::specs::Acknack::missing_at))]
 fn get_missing(octets: &[u8], at: usize, endian: Endian) -> Option<SnSet>
     ensures { option_map sn_view result ≡ heard.missing_at endian octets.now at }
@@ -84,8 +85,8 @@ fn is_ours(reader: EntityId, writer: EntityId) -> bool
     reader == SUBSCRIPTIONS_DETECTOR && writer == ENTITYID_SEDP_BUILTIN_SUBSCRIPTIONS_ANNOUNCER
 }
 
-/// Returns the ACKNACK of the participant `source` in a body, if it answers our announcer of readers;
-/// `None` too if it is malformed.
+/// Returns the ACKNACK of the participant `source` in a body, if it answers our announcer of
+/// readers; `None` too if it is malformed.
 #[tactic(auto, unfolding(crate::specs::Acknack::ack_heard))]
 pub(crate) fn ack_heard(source: GuidPrefix, flags: u8, body: &[u8]) -> Option<Hearing>
     ensures { result ≡ heard.ack_heard source flags body.now }

@@ -15,10 +15,10 @@ use rtps_types::{Datagram, GuidPrefix};
 use std::alloc::{AllocError, Allocator, Global};
 use std::marker::Model;
 
-/// Says to whom our participant is to be announced, and to whom its readers (DDSI-RTPS 8.4.7, 8.4.9,
-/// 8.5.3, 8.5.4): to everyone once in a period; to each participant that it finds at once, and again
-/// until that has acknowledged all. It holds the announcements of no reader, only their numbers, and
-/// it sends nothing itself: each call puts what is to be sent at the end of a list.
+/// Says to whom our participant is to be announced, and to whom its readers (DDSI-RTPS 8.4.7,
+/// 8.4.9, 8.5.3, 8.5.4): to everyone once in a period; to each participant that it finds at once,
+/// and again until that has acknowledged all. It holds the announcements of no reader, only their
+/// numbers, and it sends nothing itself: each call puts what is to be sent at the end of a list.
 ///
 /// A call that is refused memory leaves that list as it was. The announcer has failed then: each
 /// later call is refused, and changes nothing.
@@ -45,8 +45,8 @@ impl<A: Allocator> Model for Announcer<A> {
 }
 
 impl<A: Allocator + Copy> Announcer<A> {
-    /// Returns the announcer of the participant `own`, which has heard nothing and has no readers. It
-    /// takes no memory.
+    /// Returns the announcer of the participant `own`, which has heard nothing and has no readers.
+    /// It takes no memory.
     pub fn new(alloc: A, own: GuidPrefix, rules: Rules) -> Announcer<A>
         ensures own { result.own ≡ own }
         ensures rules { result.rules ≡ rules }
@@ -88,8 +88,8 @@ impl<A: Allocator + Copy> Announcer<A> {
         Ok(())
     }
 
-    /// Takes a datagram, and puts what is said by it at the end of `sends`: first its moment passes, as
-    /// by [`tick`](Announcer::tick), and then what it says is heard, as by
+    /// Takes a datagram, and puts what is said by it at the end of `sends`: first its moment
+    /// passes, as by [`tick`](Announcer::tick), and then what it says is heard, as by
     /// [`hearings`](crate::hearings). `AllocError` where memory is refused.
     pub fn take(
         &mut self,
@@ -168,8 +168,8 @@ impl<A: Allocator + Copy> Announcer<A> {
         }
     }
 
-    /// Removes our reader of a rank, and tells every peer. Nothing is said and nothing changes where
-    /// the rank wasn't given, or its reader has gone.
+    /// Removes our reader of a rank, and tells every peer. Nothing is said and nothing changes
+    /// where the rank wasn't given, or its reader has gone.
     pub fn remove_reader(
         &mut self,
         alloc: A,

@@ -97,8 +97,8 @@ impl Context {
     }
 }
 
-/// Returns the submessage at the front, with what its body contains; `None` if there is none that can
-/// be read.
+/// Returns the submessage at the front, with what its body contains; `None` if there is none that
+/// can be read.
 fn front(octets: &[u8]) -> Option<(RawSubmessage<'_>, Parts<'_>)>
     ensures opened { submessages octets.now ≡ context.submessages_from result }
     ensures shorter { IfSome result (λ front. length front.0.rest.now < length octets.now) }
@@ -135,11 +135,11 @@ fn heard_from<A: Allocator>(
     Ok(hearings)
 }
 
-/// Returns what the participant `own` hears of the octets of a datagram, in order (DDSI-RTPS 8.3.4):
-/// of each submessage of another participant that is for it, what a change of that participant's own
-/// announcer says of it (8.5.3), and each ACKNACK of that participant's reader of readers (8.3.7.1).
-/// A datagram with a bad header has nothing to hear, and what follows the first submessage that can't
-/// be read is ignored. `AllocError` where memory is refused.
+/// Returns what the participant `own` hears of the octets of a datagram, in order (DDSI-RTPS
+/// 8.3.4): of each submessage of another participant that is for it, what a change of that
+/// participant's own announcer says of it (8.5.3), and each ACKNACK of that participant's reader of
+/// readers (8.3.7.1). A datagram with a bad header has nothing to hear, and what follows the first
+/// submessage that can't be read is ignored. `AllocError` where memory is refused.
 pub fn hearings<A: Allocator>(
     alloc: A,
     own: GuidPrefix,

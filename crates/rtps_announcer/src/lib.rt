@@ -1,17 +1,18 @@
 //! How a participant makes itself and its readers known: who is told what, and when (DDSI-RTPS
 //! 8.4.7, 8.4.9, 8.5.3, 8.5.4).
 //!
-//! [`hearings`] finds what is heard of a datagram: what a participant announces of itself (SPDP), and
-//! the ACKNACKs by which it answers for the readers that we announce (SEDP). [`Announcer`] takes it,
-//! with the moments that pass and the readers of ours that come and go, and puts what is said by it
-//! at the end of a list: values, each with whom it is for. Octets are made of them elsewhere.
+//! [`hearings`] finds what is heard of a datagram: what a participant announces of itself (SPDP),
+//! and the ACKNACKs by which it answers for the readers that we announce (SEDP). [`Announcer`]
+//! takes it, with the moments that pass and the readers of ours that come and go, and puts what is
+//! said by it at the end of a list: values, each with whom it is for. Octets are made of them
+//! elsewhere.
 //!
 //! - To everyone: that our participant is here, once in a period.
-//! - To a participant that is found, at once: a farewell, by which it forgets what it knew of us, then
-//!   that we are here, each reader of ours that is there, a GAP for each other number, and a
+//! - To a participant that is found, at once: a farewell, by which it forgets what it knew of us,
+//!   then that we are here, each reader of ours that is there, a GAP for each other number, and a
 //!   HEARTBEAT.
-//! - To each such peer: each change of our readers at once, what it asks for, and HEARTBEATs until it
-//!   has acknowledged all or fell silent.
+//! - To each such peer: each change of our readers at once, what it asks for, and HEARTBEATs until
+//!   it has acknowledged all or fell silent.
 //!
 //! ```text
 //! let mut announcer = Announcer::new(alloc, own, Rules::DEFAULT);
@@ -23,16 +24,16 @@
 //! }
 //! ```
 //!
-//! Proved of each call is what it sends and what the announcer is after it, as `specs/Announcing.antt`
-//! defines them, and that a call that is refused memory leaves the list as it was. Proved too is, in
-//! [`laws`], what follows: however what is heard is cut into batches, the same is sent; each
-//! participant that was found and stays was told of each change that concerns it; nothing else is
-//! told, and nothing is sent without end. Only tested is that calls succeed where there is memory,
-//! and that the numbers of the definitions are those of the standard, by octets that are written by
-//! hand.
+//! Proved of each call is what it sends and what the announcer is after it, as
+//! `specs/Announcing.antt` defines them, and that a call that is refused memory leaves the list as
+//! it was. Proved too is, in [`laws`], what follows: however what is heard is cut into batches, the
+//! same is sent; each participant that was found and stays was told of each change that concerns
+//! it, and when it is found or asks of no other; it is reminded; and nobody makes us send or keep
+//! without end. Only tested is that calls succeed where there is memory, and that the numbers of
+//! the definitions are those of the standard, by octets that are written by hand.
 //!
-//! Not kept from a peer are locators of groups, and more than four. Whether a locator on loopback may
-//! be sent to depends on our own address: that is for whoever sends.
+//! Not kept from a peer are locators of groups, and more than four. Whether a locator on loopback
+//! may be sent to depends on our own address: that is for whoever sends.
 #![tactic(auto)]
 
 mod ack;

@@ -40,8 +40,8 @@ fn is_unicast(locator: Locator) -> bool
     1 <= locator.address[0] && locator.address[0] <= 223
 }
 
-/// Returns the first four unicast locators of a list. Whoever sends to them knows by which of its own
-/// addresses, and whether they may be on loopback.
+/// Returns the first four unicast locators of a list. Whoever sends to them knows by which of its
+/// own addresses, and whether they may be on loopback.
 fn peer_locators(mut listed: ListedLocators<'_>) -> PeerLocators
     ensures { result ≡ take 4 (filter heard.is_unicast listed.entry) }
 {
@@ -97,8 +97,8 @@ fn facts_of(settings: Settings<'_>) -> Facts
     }
 }
 
-/// Returns the parameter list of a payload, behind four octets of encapsulation; `None` if it is not
-/// one, or is malformed.
+/// Returns the parameter list of a payload, behind four octets of encapsulation; `None` if it is
+/// not one, or is malformed.
 fn list_in(payload: &[u8]) -> Option<ParamList<'_>>
     ensures { result ≡ said.list_in payload.now }
 {
@@ -170,8 +170,8 @@ fn end_in(source: GuidPrefix, hash: Option<KeyHash>, payload: &[u8]) -> Option<H
     }
 }
 
-/// Returns what a change of a participant's own announcer says: of the participant `source`, to ours,
-/// `own`.
+/// Returns what a change of a participant's own announcer says: of the participant `source`, to
+/// ours, `own`.
 #[tactic(auto, unfolding(rtps_discovery::specs::AnnouncedData::said_in))]
 pub(crate) fn participant_heard(
     own: GuidPrefix,

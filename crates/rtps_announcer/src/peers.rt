@@ -176,8 +176,8 @@ fn is_older(heard: u64, chosen: Option<(GuidPrefix, u64)>) -> bool
     }
 }
 
-/// Makes room for one peer more: where all places are taken, one that is mute loses its own. Returns
-/// whether there is room.
+/// Makes room for one peer more: where all places are taken, one that is mute loses its own.
+/// Returns whether there is room.
 pub(crate) fn make_room<A: Allocator>(
     peers: &mut BTreeMap<GuidPrefix, Peer, A>,
     most: usize,

@@ -32,7 +32,8 @@ fn has_gone(gone: &[bool], rank: u32) -> bool
     }
 }
 
-/// Whether a change with this number concerns a peer that was found when there were `since` changes.
+/// Whether a change with this number concerns a peer that was found when there were `since`
+/// changes.
 fn concerns(gone: &[bool], since: u64, number: u64, change: Change) -> bool
     ensures { result ≡ telling.concerns gone.now since number change }
 {

@@ -18,7 +18,8 @@ const TO_US: [u8; 16] = [
 
 const TO_OTHERS: [u8; 16] = [0x0e, 1, 12, 0, 7, 7, 7, 7, 7, 7, 7, 7, 7, 7, 7, 7];
 
-/// The DATA of SPDP: its guid, two locators, a lease of one and a half seconds, and a set with bit 5.
+/// The DATA of SPDP: its guid, two locators, a lease of one and a half seconds, and a set with bit
+/// 5.
 const RECORD: [u8; 128] = [
     0x15, 0x05, 124, 0, // DATA, E and D
     0, 0, 16, 0, 0, 1, 0, 0xc7, 0, 1, 0, 0xc2, // to 000100c7, from 000100c2
