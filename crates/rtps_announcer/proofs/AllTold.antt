@@ -173,7 +173,7 @@ news_told gone later cs c said more f keeps stays (e ∷ es) told reached = (
   news_told gone later cs c said more f keeps stays es told.1 reached.1,
 )
 
-told_since : (r : Rules) (now : Now) (p : Peer) → (told_more r now p).since ≡ p.since
+pub told_since : (r : Rules) (now : Now) (p : Peer) → (told_more r now p).since ≡ p.since
 told_since r now p = refl
 
 -- all peers are told a change more, in a state to which it is added
@@ -197,7 +197,7 @@ if_since : (b : Bool) (n : ℕ) (x y : Peer) → x.since ≡ n → y.since ≡ n
 if_since true n x y hx hy = hx
 if_since false n x y hx hy = hy
 
-reminded_since : (r : Rules) (now : Now) (p : Peer) → (reminded r now p).since ≡ p.since
+pub reminded_since : (r : Rules) (now : Now) (p : Peer) → (reminded r now p).since ≡ p.since
 reminded_since r now p = if_since (is_late r now p) p.since _ p refl refl
 
 -- what is said at this hearing goes behind what was said before
@@ -225,7 +225,7 @@ again_told r p f s said peer told is = by_case f.hears
     by_case false = remove_told s.gone s.changes said (same_prefix p) s.peers told
 
 -- what holds of the peers, whoever loses its place, holds of those with room for one more
-room_keeps : (P : Peers → Type 0) (most : ℕ) (peers left : Peers) → P peers → ((test : GuidPrefix → Bool) → P (remove_entry test peers)) → room most peers ≡ Some left → P left
+pub room_keeps : (P : Peers → Type 0) (most : ℕ) (peers left : Peers) → P peers → ((test : GuidPrefix → Bool) → P (remove_entry test peers)) → room most peers ≡ Some left → P left
 room_keeps P most peers left all fewer is = by_case (nat_lt (length peers) most) (oldest None peers) is
   where
     by_case : (b : Bool) (o : Option (GuidPrefix × ℕ)) → (if b then Some peers else without o peers) ≡ Some left → P left

@@ -24,6 +24,7 @@ use Rattle.rtps_announcer.specs.Said.{beat_of, to_one}
 use Rattle.rtps_announcer.specs.Telling.{before, concerns, merged, retelling, telling, told_as, told_if, wanted, with_void}
 use Rattle.rtps_announcer.specs.Told.{said_to}
 use Rattle.rtps_announcer.proofs.AllTold.{itself, said_to-append, said_to-one}
+use Rattle.rtps_announcer.proofs.Since.{went}
 use Rattle.rtps_announcer.proofs.Told.{gone_more}
 
 -- ---- what concerns whom
@@ -87,6 +88,7 @@ came gone since n =
 pub only_concerned : OnlyConcerned
 only_concerned = record {
   came = came;
+  went = went;
   found = λ s. (
     tt,
     (

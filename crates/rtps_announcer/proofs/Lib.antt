@@ -8,4 +8,5 @@ pub mod Few
 pub mod Lists
 pub mod Opened
 pub mod Running
+pub mod Since
 pub mod Told

@@ -1,18 +1,20 @@
 -- What is said to whom: what concerns it, what it asked for, and what it hasn't acknowledged yet.
-use Rattle.std.specs.Prelude.{◌≡◌, ℕ, ◌==◌, List, [], ◌∷◌, ◌++◌, length, Bool, true, false}
+use Rattle.std.specs.Prelude.{◌≡◌, ℕ, ◌+◌, ◌==◌, List, [], ◌∷◌, ◌++◌, length, Bool, true, false}
 use Rattle.std.specs.List.{list_any}
 use Rattle.rtps_types.specs.declared.identity.GuidPrefix.{GuidPrefix}
 use Rattle.rtps_announcer.specs.Ack.{AckView}
+use Rattle.rtps_announcer.specs.declared.hearing.Hearing.{Hearing}
 use Rattle.rtps_announcer.specs.declared.peer.Peer.{Peer}
 use Rattle.rtps_announcer.specs.declared.rules.Rules.{Rules}
-use Rattle.rtps_announcer.specs.declared.said.Change.TheVariants.{Asks}
+use Rattle.rtps_announcer.specs.declared.said.Change.{Change}
+use Rattle.rtps_announcer.specs.declared.said.Change.TheVariants.{Asks, Ends}
 use Rattle.rtps_announcer.specs.declared.said.Said.{Said}
 use Rattle.rtps_announcer.specs.declared.said.Said.TheVariants.{Bye, Hello, Told, Void, Beat}
 use Rattle.rtps_announcer.specs.declared.said.Sending.{Sending}
 use Rattle.rtps_announcer.specs.Announcing.{Peers, State, acks, at_moment, now_of, passes, reply, welcome}
 use Rattle.rtps_announcer.specs.Peer.{is_late}
 use Rattle.rtps_announcer.specs.Telling.{concerns}
-use Rattle.rtps_announcer.specs.Told.{is_to, said_to}
+use Rattle.rtps_announcer.specs.Told.{is_to, said_to, state_after}
 
 -- a change that is said concerns a peer that was found when there were `since` changes
 abbrev pub IsConcerned : List Bool → ℕ → Said → Type 0
@@ -26,11 +28,19 @@ abbrev pub AreConcerned : List Bool → ℕ → List Said → Type 0
 AreConcerned gone since [] = Unit {0}
 AreConcerned gone since (x ∷ xs) = IsConcerned gone since x × AreConcerned gone since xs
 
--- A reader that comes concerns everyone. To who is found and to who asks only changes are said that
--- concern it then: so nothing of a reader that has gone, but its end to who may have heard of it.
+-- a change with a number concerns each of these peers
+abbrev pub ConcernsEach : List Bool → ℕ → Change → Peers → Type 0
+ConcernsEach gone n c [] = Unit {0}
+ConcernsEach gone n c (e ∷ es) = (concerns gone e.1.since n c ≡ true) × ConcernsEach gone n c es
+
+-- A reader that comes concerns everyone, and its end everyone who is a peer. To who is found and to
+-- who asks only changes are said that concern it then: so nothing of a reader that has gone, but
+-- its end to who may have heard of it.
 pub record OnlyConcerned : Type 0 where
   pub came : (gone : List Bool) (since n : ℕ)
       → concerns (gone ++ false ∷ []) since n (Asks (length gone)) ≡ true
+  pub went : (r : Rules) (hs : List Hearing) (gone : List Bool) (rank : ℕ) → ConcernsEach gone
+      (length (state_after r hs).changes + 1) (Ends rank) (state_after r hs).peers
   pub found : (s : State) → AreConcerned s.gone (length s.changes) (welcome s)
   pub answered : (r : Rules) (s : State) (p : Peer) (a : AckView)
       → AreConcerned s.gone p.since (reply r s p a)

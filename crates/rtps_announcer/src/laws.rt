@@ -24,8 +24,9 @@ pub fn all_told()
     ensures { AllTold }
 {}
 
-/// Only changes that concern a participant are said to it, when it is found and when it asks: so
-/// nothing of a reader of ours that has gone, but its end to who may have heard of it.
+/// Only changes that concern a participant are said to it: when it is found, when it asks, and when
+/// a reader of ours comes or goes. So nothing of a reader that has gone, but its end to who may
+/// have heard of it.
 pub fn only_concerned()
     ensures { OnlyConcerned }
 {}
