@@ -205,9 +205,9 @@ impl<A: Allocator + Copy> Announcer<A> {
     }
 
     /// How many peers there are.
-    pub fn peers(&self) -> usize
+    pub fn peer_count(&self) -> usize
         ensures { result ≡ length self.now.state.peers }
     {
-        self.state.peers()
+        self.state.peer_count()
     }
 }

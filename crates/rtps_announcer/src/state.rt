@@ -355,7 +355,7 @@ impl<A: Allocator + Copy> AnnouncerState<A> {
     }
 
     /// How many peers there are.
-    pub fn peers(&self) -> usize
+    pub fn peer_count(&self) -> usize
         ensures { result ≡ length self.now.peers }
     {
         self.peers.len()

@@ -115,7 +115,7 @@ fn a_datagram_is_answered(rt: HostRuntime) -> Result<(), Fail> {
             Said::Beat(1, 2),
         ])
     );
-    assert_eq!(rt; desk.announcer.peers(), 0);
+    assert_eq!(rt; desk.announcer.peer_count(), 0);
     Ok(())
 }
 

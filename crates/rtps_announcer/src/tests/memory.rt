@@ -50,12 +50,12 @@ fn has_room(alloc: Global, size: usize) -> Result<bool, Fail> {
 
 #[test]
 fn a_refused_growth_says_nothing_and_fails_the_announcer(rt: HostRuntime) -> Result<(), Fail> {
-    let (mut refused, mut taken) = (0, 0);
+    let (mut refused, mut taken) = (0u32, 0u32);
     for step in 1..128 {
         if has_room(rt.alloc(), step * 128)? {
-            taken += 1;
+            taken = taken.saturating_add(1);
         } else {
-            refused += 1;
+            refused = refused.saturating_add(1);
         }
     }
     assert!(rt; refused > 8 && taken > 8);

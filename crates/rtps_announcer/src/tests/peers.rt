@@ -20,7 +20,7 @@ fn where_all_places_are_taken_who_is_mute_loses_its_own(rt: HostRuntime) -> Resu
     // No one is mute yet: all have reminders left.
     desk.hear(rt.alloc(), &Hearing::Comes(ONE, facts(None)))?;
     assert!(rt; desk.says(&[]));
-    assert_eq!(rt; desk.announcer.peers(), 256);
+    assert_eq!(rt; desk.announcer.peer_count(), 256);
     desk.add_reader(rt.alloc())?;
     desk.hear(
         rt.alloc(),
@@ -33,7 +33,7 @@ fn where_all_places_are_taken_who_is_mute_loses_its_own(rt: HostRuntime) -> Resu
     desk.hear(rt.alloc(), &Hearing::Comes(peer(1), facts(None)))?;
     desk.hear(rt.alloc(), &Hearing::Comes(ONE, facts(None)))?;
     assert!(rt; !desk.says(&[]) && desk.says_to(ONE));
-    assert_eq!(rt; desk.announcer.peers(), 256);
+    assert_eq!(rt; desk.announcer.peer_count(), 256);
     for number in [0, 1, 3, 255] {
         desk.hear(rt.alloc(), &Hearing::Comes(peer(number), facts(None)))?;
         assert!(rt; desk.says(&[]));
@@ -53,14 +53,14 @@ fn who_has_no_reader_of_readers_is_no_peer(rt: HostRuntime) -> Result<(), Fail> 
     };
     desk.hear(rt.alloc(), &Hearing::Comes(ONE, deaf))?;
     assert!(rt; desk.says(&[]));
-    assert_eq!(rt; desk.announcer.peers(), 0);
+    assert_eq!(rt; desk.announcer.peer_count(), 0);
     desk.hear(rt.alloc(), &Hearing::Comes(ONE, facts(None)))?;
     let deaf = Facts {
         hears: false,
         ..facts(None)
     };
     desk.hear(rt.alloc(), &Hearing::Comes(ONE, deaf))?;
-    assert_eq!(rt; desk.announcer.peers(), 0);
+    assert_eq!(rt; desk.announcer.peer_count(), 0);
     Ok(())
 }
 

@@ -52,11 +52,11 @@ fn reminders_end_and_a_record_fills_them_up(rt: HostRuntime) -> Result<(), Fail>
     let mut desk = Desk::with_peer(rt.alloc())?;
     desk.tick(rt.alloc(), 0)?;
     desk.add_reader(rt.alloc())?;
-    let mut reminders = 0;
+    let mut reminders = 0u32;
     for turn in 1..100 {
         desk.tick(rt.alloc(), turn * 200)?;
         if desk.sends.iter().any(|one| is_to(one, ONE)) {
-            reminders += 1;
+            reminders = reminders.saturating_add(1);
         }
     }
     assert_eq!(rt; reminders, 25);
@@ -74,11 +74,11 @@ fn a_lease_ends_and_the_peer_is_found_again(rt: HostRuntime) -> Result<(), Fail>
     desk.tick(rt.alloc(), 10)?;
     desk.hear(rt.alloc(), &Hearing::Comes(TWO, facts(None)))?;
     desk.hear(rt.alloc(), &Hearing::Comes(ONE, facts(Some(100))))?;
-    assert_eq!(rt; desk.announcer.peers(), 2);
+    assert_eq!(rt; desk.announcer.peer_count(), 2);
     desk.tick(rt.alloc(), 110)?;
-    assert_eq!(rt; desk.announcer.peers(), 2);
+    assert_eq!(rt; desk.announcer.peer_count(), 2);
     desk.tick(rt.alloc(), 111)?;
-    assert_eq!(rt; desk.announcer.peers(), 1);
+    assert_eq!(rt; desk.announcer.peer_count(), 1);
     desk.hear(rt.alloc(), &Hearing::Comes(ONE, facts(Some(100))))?;
     // The counts go on, so that a peer that comes again sees them rise.
     assert!(rt;
@@ -91,6 +91,6 @@ fn a_lease_ends_and_the_peer_is_found_again(rt: HostRuntime) -> Result<(), Fail>
     );
     desk.hear(rt.alloc(), &Hearing::Leaves(TWO))?;
     assert!(rt; desk.says(&[]));
-    assert_eq!(rt; desk.announcer.peers(), 1);
+    assert_eq!(rt; desk.announcer.peer_count(), 1);
     Ok(())
 }
