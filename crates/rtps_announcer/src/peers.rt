@@ -1,9 +1,8 @@
 //! The peers, in the order of the octets of their prefixes.
 
-ghost use Rattle.std.specs.Prelude.{◌≡◌, ◌++◌, ◌∷◌, [], IfOk, IfSome, IfNone, OnOk, None, Some, false, filter, length, map, if◌then◌else◌};
-ghost use Rattle.std.specs.BTreeMap.{insert_entry};
+ghost use Rattle.std.specs.Prelude.{◌≡◌, ◌++◌, IfOk, OnOk, None, Some, false, filter, map};
 ghost use Rattle.std.specs.List.{flat_map, list_any};
-ghost use Rattle.std.specs.Map.{lookup, remove_entry, set_value};
+ghost use Rattle.std.specs.Map.{lookup, set_value};
 ghost use Rattle.rtps_types.specs.declared.identity.GuidPrefix.{GuidPrefix};
 ghost use Rattle.rtps_announcer.specs.declared.peer.Peer.{Peer};
 ghost use Rattle.rtps_discovery.specs.Known.{same_prefix};
@@ -21,9 +20,6 @@ use crate::said::{Change, Said, Sending};
 use rtps_types::GuidPrefix;
 use std::alloc::{AllocError, Allocator};
 use std::collections::BTreeMap;
-
-/// The peers by their prefixes.
-pub(crate) type Peers<A> = BTreeMap<GuidPrefix, Peer, A>;
 
 /// Removes the peers whose leases have ended at a moment.
 pub(crate) fn end_leases<A: Allocator>(peers: &mut BTreeMap<GuidPrefix, Peer, A>, moment: u64)
