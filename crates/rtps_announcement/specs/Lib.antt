@@ -1,0 +1,9 @@
+pub mod Entities
+pub mod Datagram
+pub mod Parameters
+pub mod Values
+pub mod Data
+pub mod Participant
+pub mod Gap
+pub mod Heartbeat
+pub mod ReadAgain
