@@ -5,4 +5,9 @@ pub mod Heartbeats
 pub mod Lists
 pub mod ValuesAgain
 pub mod Changes
+pub mod Names
+pub mod Records
+pub mod TextsAgain
+pub mod PoliciesAgain
+pub mod Readers
 pub mod Participants

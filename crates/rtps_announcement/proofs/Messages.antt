@@ -83,3 +83,7 @@ regrouped front a b c d e = simp append_assoc
 -- a record of seven parameters behind what is before it
 pub regrouped_record : (old a p q r s t u v end : List ℕ) → old ++ a ++ p ++ q ++ r ++ s ++ t ++ u ++ v ++ end ≡ old ++ (a ++ (p ++ (q ++ (r ++ (s ++ (t ++ (u ++ (v ++ end))))))))
 regrouped_record old a p q r s t u v end = simp append_assoc
+
+-- eight parameters behind what is before them
+pub regrouped_policies : (old p q r s t u v w : List ℕ) → old ++ p ++ q ++ r ++ s ++ t ++ u ++ v ++ w ≡ old ++ (p ++ (q ++ (r ++ (s ++ (t ++ (u ++ (v ++ (w ++ []))))))))
+regrouped_policies old p q r s t u v w = simp (append_assoc, append-nil)

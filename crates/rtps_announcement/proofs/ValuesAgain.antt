@@ -55,7 +55,7 @@ locator_reads l h = located l.port l.address h.address h.some h.port
 
 -- ---- a duration
 
-signed_again : (z : _) → FitsSigned w32 z → cast_signed w32 (number Little 4 (encoded Little 4 (cast_unsigned w32 z))) ≡ z
+pub signed_again : (z : _) → FitsSigned w32 z → cast_signed w32 (number Little 4 (encoded Little 4 (cast_unsigned w32 z))) ≡ z
 signed_again z fits =
     let small = Fits-of_z {w = w32} {z = z} fits in
     let less : cast_unsigned w32 z < 256 ^ 4 = omega (arith, small) in

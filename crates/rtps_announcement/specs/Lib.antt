@@ -4,6 +4,9 @@ pub mod Parameters
 pub mod Values
 pub mod Data
 pub mod Participant
+pub mod Policies
+pub mod Fault
+pub mod Reader
 pub mod Gap
 pub mod Heartbeat
 pub mod ReadAgain

@@ -7,6 +7,8 @@ use Rattle.rtps_types.specs.declared.identity.GuidPrefix.{GuidPrefix}
 use Rattle.rtps_types.specs.declared.locator.Locator.{Locator}
 use Rattle.rtps_types.specs.declared.time.Duration.{Duration}
 use Rattle.rtps_types.specs.Field.{encoded}
+use Rattle.rtps_cdr.specs.Cdr.{Sequence, Text, padding}
+use Rattle.rtps_cdr.specs.Writing.{written}
 
 -- a guid: the prefix and the entity
 abbrev pub guid_value : GuidPrefix → EntityId → List ℕ
@@ -32,3 +34,18 @@ pub record IsUdp (locator : Locator) : Type 0 where
 pub record IsDuration (d : Duration) : Type 0 where
   pub seconds : FitsSigned w32 d.seconds
   pub fraction : d.fraction < 2 ^ 32
+
+-- the value of a kind, a number of 32 bits
+abbrev pub kind_value : ℕ → List ℕ
+kind_value kind = encoded Little 4 kind
+
+-- octets with zeros up to a whole word (9.4.2.11)
+abbrev pub filled : List ℕ → List ℕ
+filled octets = octets ++ replicate (padding 4 (length octets)) 0
+
+-- a topic or a type, and the names of partitions
+abbrev pub text_value : List ℕ → List ℕ
+text_value text = filled (written Text 0 Little text)
+
+abbrev pub names_value : List (List ℕ) → List ℕ
+names_value names = filled (written (Sequence Text) 0 Little names)

@@ -4,14 +4,22 @@
 mod data;
 mod datagram;
 mod entities;
+mod fault;
 mod fields;
 mod gap;
 mod heartbeat;
 pub mod laws;
 mod parameters;
 mod participant;
+mod policies;
+mod reader;
+mod record;
+mod texts;
 mod values;
 
+pub use fault::RecordFault;
 pub use gap::write_gap;
 pub use heartbeat::write_heartbeat;
 pub use participant::{Presence, write_participant, write_participant_gone};
+pub use reader::{write_reader, write_reader_gone};
+pub use record::ReaderRecord;
