@@ -6,6 +6,9 @@ ghost use Rattle.rtps_announcement.specs.declared.fault.RecordFault.TheVariants 
 use std::alloc::AllocError;
 use thiserror::Error;
 
+/// The most octets of a record, so that its datagram is one that UDP carries.
+pub(crate) const LONGEST: usize = 60_000;
+
 /// Why the record of a reader can't be made.
 #[derive(Clone, Copy, Debug, PartialEq, Eq, Error)]
 pub enum RecordFault {

@@ -31,7 +31,8 @@ const ENDPOINT_SET: [u8; 4] = [0x3b, 0, 0, 0];
 /// The octets of the payload.
 const LENGTH: u16 = 120;
 
-/// Where a participant is reached, and how long it may keep silent.
+/// Where a participant is reached, and how long it may keep silent. A receiver drops a locator with
+/// port 0.
 #[derive(Clone, Copy, Debug, PartialEq)]
 pub struct Presence {
     /// Where its discovery is reached.

@@ -10,10 +10,10 @@ ghost use Rattle.rtps_announcement.specs.Parameters.{parameter_octets};
 ghost use Rattle.rtps_announcement.specs.Reader.{partition_parameters, reader_record};
 
 use crate::entities::ENTITYID_PARTICIPANT;
-use crate::fault::RecordFault;
+use crate::fault::{LONGEST, RecordFault};
 use crate::parameters::{LIST_END, PL_CDR_LE, push_parameter};
 use crate::policies::push_policies;
-use crate::texts::{LONGEST, names_value, text_value};
+use crate::texts::{names_value, text_value};
 use crate::values::guid_value;
 use rtps_discovery::ReaderConfig;
 use rtps_params::ids::{ENDPOINT_GUID, PARTICIPANT_GUID, PARTITION, TOPIC_NAME, TYPE_NAME};

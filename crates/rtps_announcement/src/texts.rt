@@ -5,16 +5,13 @@ ghost use Rattle.std.specs.String.{string_bytes};
 ghost use Rattle.rtps_announcement.specs.Fault.{IsTooLong, longest};
 ghost use Rattle.rtps_announcement.specs.Values as values;
 
-use crate::fault::RecordFault;
+use crate::fault::{LONGEST, RecordFault};
 use rtps_cdr::CdrWriter;
 use rtps_types::Endian;
 use std::alloc::{AllocError, Allocator};
 
 /// The octets of padding.
 const ZEROS: [u8; 8] = [0; 8];
-
-/// The most octets of a record.
-pub(crate) const LONGEST: usize = 60_000;
 
 /// Returns the value of a topic or a type. `TooLong` where it has more octets than a record;
 /// `NoMemory` where memory is refused.
