@@ -4,7 +4,7 @@ ghost use Rattle.std.specs.Prelude.{◌≡◌, [], ◌∷◌, ◌++◌, OnOk};
 ghost use Rattle.std.specs.List.{flat_map};
 ghost use Rattle.rtps_announcement.specs.Parameters.{parameter_octets};
 ghost use Rattle.rtps_announcement.specs.Policies as policies;
-ghost use Rattle.rtps_announcement.specs.Values.{kind_value};
+ghost use Rattle.rtps_announcement.specs.Values.{IsDuration, kind_value};
 
 use crate::parameters::push_parameter;
 use crate::values::duration_value;
@@ -24,8 +24,9 @@ pub(crate) fn push_policies<A: Allocator>(
     octets: &mut Vec<u8, A>,
     requested: &Policies,
 ) -> Result<(), AllocError>
-    ensures { OnOk result (octets.new.items ≡ octets.old.items
+    ensures octets { OnOk result (octets.new.items ≡ octets.old.items
         ++ flat_map parameter_octets (policies.policy_parameters requested.now [])) }
+    ensures fits { OnOk result (policies.HaveDurations requested.now) }
 {
     push_parameter(octets, DURABILITY, &durability_value(requested.durability))?;
     push_parameter(
@@ -138,7 +139,8 @@ fn reliability_value(reliability: Reliability) -> [u8; 12]
 
 /// `LivelinessQosPolicy`: the kind, and the lease.
 fn liveliness_value(liveliness: Liveliness) -> [u8; 12]
-    ensures { result ≡ policies.liveliness_value liveliness }
+    ensures value { result ≡ policies.liveliness_value liveliness }
+    ensures fits { IsDuration liveliness.lease_duration }
 {
     let mut value = [0; 12];
     put_u32(

@@ -1,13 +1,16 @@
 //! The record of a reader, which is the payload of the change by which it is announced (DDSI-RTPS
 //! 8.5.4, 9.6.3).
 
-ghost use Rattle.std.specs.Prelude.{◌≡◌, ◌≤◌, ◌++◌, map, length, IfOk, OnOk};
+ghost use Rattle.std.specs.Prelude.{◌≡◌, ◌≤◌, ◌++◌, map, length, true, IfOk, OnOk};
 ghost use Rattle.std.specs.List.{flat_map};
 ghost use Rattle.std.specs.String.{string_bytes};
+ghost use Rattle.rtps_cdr.specs.Cdr.{Sequence, Text};
+ghost use Rattle.rtps_cdr.specs.Writing.{Fits};
+ghost use Rattle.rtps_discovery.specs.Config.{is_reader};
 ghost use Rattle.rtps_discovery.specs.Start.{wish_of};
 ghost use Rattle.rtps_announcement.specs.Fault.{IsTooLong, longest};
 ghost use Rattle.rtps_announcement.specs.Parameters.{parameter_octets};
-ghost use Rattle.rtps_announcement.specs.Reader.{partition_parameters, reader_record};
+ghost use Rattle.rtps_announcement.specs.Reader.{IsAnnounced, partition_parameters, reader_record};
 
 use crate::entities::ENTITYID_PARTICIPANT;
 use crate::fault::{LONGEST, RecordFault};
@@ -50,6 +53,9 @@ impl<A: Allocator + Copy> ReaderRecord<A> {
     ) -> Result<ReaderRecord<A>, RecordFault>
         ensures octets { IfOk result (λ octets. octets ≡ reader_record own (wish_of reader.now)) }
         ensures short { IfOk result (λ octets. length octets ≤ longest) }
+        // So the law of records speaks of it.
+        ensures announced { IfOk result (λ octets. is_reader reader.now.entity ≡ true
+            → IsAnnounced own (wish_of reader.now)) }
         ensures too_long { IsTooLong result (reader_record own (wish_of reader.now)) }
     {
         let topic = text_value(alloc, reader.topic.as_str())?;
@@ -93,6 +99,7 @@ fn push_partitions<A: Allocator + Copy>(
 ) -> Result<(), RecordFault>
     ensures octets { OnOk result (octets.new.items ≡ octets.old.items
         ++ flat_map parameter_octets (partition_parameters (map string_bytes names.now))) }
+    ensures fits { OnOk result (Fits (Sequence Text) (map string_bytes names.now)) }
     ensures too_long { IsTooLong result
         (flat_map parameter_octets (partition_parameters (map string_bytes names.now))) }
 {

@@ -2,6 +2,8 @@
 
 ghost use Rattle.std.specs.Prelude.{◌≡◌, ◌<◌, ◌≤◌, map, length, IfOk, OnErr};
 ghost use Rattle.std.specs.String.{string_bytes};
+ghost use Rattle.rtps_cdr.specs.Cdr.{Sequence, Text};
+ghost use Rattle.rtps_cdr.specs.Writing.{Fits};
 ghost use Rattle.rtps_announcement.specs.Fault.{IsTooLong, longest};
 ghost use Rattle.rtps_announcement.specs.Values as values;
 
@@ -17,6 +19,7 @@ const ZEROS: [u8; 8] = [0; 8];
 /// `NoMemory` where memory is refused.
 pub(crate) fn text_value<A: Allocator>(alloc: A, text: &str) -> Result<Vec<u8, A>, RecordFault>
     ensures value { IfOk result (λ value. value.items ≡ values.text_value text.now) }
+    ensures fits { IfOk result (λ value. Fits Text text.now) }
     ensures short { IfOk result (λ value. length value.items ≤ longest) }
     ensures too_long { IsTooLong result (values.text_value text.now) }
 {
@@ -36,6 +39,7 @@ pub(crate) fn names_value<A: Allocator>(
 ) -> Result<Vec<u8, A>, RecordFault>
     ensures value { IfOk result (λ value. value.items
         ≡ values.names_value (map string_bytes names.now)) }
+    ensures fits { IfOk result (λ value. Fits (Sequence Text) (map string_bytes names.now)) }
     ensures short { IfOk result (λ value. length value.items ≤ longest) }
     ensures too_long { IsTooLong result (values.names_value (map string_bytes names.now)) }
 {

@@ -1,6 +1,6 @@
 //! The values of parameters that have a fixed length (DDSI-RTPS 9.3.1, 9.3.2, 9.6.3).
 
-ghost use Rattle.std.specs.Prelude.{◌≡◌};
+ghost use Rattle.std.specs.Prelude.{◌≡◌, length};
 ghost use Rattle.rtps_announcement.specs.Values as values;
 
 use rtps_types::{Duration, Endian, EntityId, GuidPrefix, Locator, put_octets, put_u32};
@@ -10,7 +10,8 @@ const LOCATOR_KIND_UDPV4: u32 = 1;
 
 /// Returns the octets of a guid.
 pub(crate) fn guid_value(prefix: GuidPrefix, entity: EntityId) -> [u8; 16]
-    ensures { result ≡ values.guid_value prefix entity }
+    ensures value { result ≡ values.guid_value prefix entity }
+    ensures entity { length entity.0 ≡ 4 }
 {
     let mut value = [0; 16];
     put_octets(&mut value, 0, &prefix.0);
@@ -31,7 +32,8 @@ pub(crate) fn locator_value(locator: Locator) -> [u8; 24]
 
 /// Returns the octets of a duration.
 pub(crate) fn duration_value(duration: Duration) -> [u8; 8]
-    ensures { result ≡ values.duration_value duration }
+    ensures value { result ≡ values.duration_value duration }
+    ensures fits { values.IsDuration duration }
 {
     let mut value = [0; 8];
     put_u32(

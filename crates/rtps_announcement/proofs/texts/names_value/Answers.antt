@@ -5,7 +5,7 @@ use Rattle.rtps_types.specs.declared.field.Endian.TheVariants.{Little}
 use Rattle.rtps_cdr.specs.Cdr.{Sequence, Text, Unsigned}
 use Rattle.rtps_cdr.specs.Statements.{all_appended}
 use Rattle.rtps_cdr.specs.Writing.{appended, written}
-use Rattle.rtps_announcement.proofs.Names.{sequence_is, too_long, too_many}
+use Rattle.rtps_announcement.proofs.Names.{names_fit_there, sequence_is, too_long, too_many}
 use Rattle.rtps_announcement.proofs.texts.names_value.Goals as goal
 
 pub returns-then-names-gt-LONGEST-clause-too_long :
@@ -32,3 +32,6 @@ returns-clause-value g c = rw (octets_are g c) at c.filled.ensures.value
 
 pub returns-clause-too_long : goal.returns-clause-too_long
 returns-clause-too_long g c = rw (octets_are g c) at c.filled.ensures.too_long
+
+pub returns-clause-fits : goal.returns-clause-fits
+returns-clause-fits g c = names_fit_there c.filled.result (λ v. v.items) c.args.names.now (returns-clause-value g c) c.filled.ensures.short
