@@ -16,12 +16,12 @@ use Rattle.rtps_run.specs.Seen.{answers_in, notices_by}
 use Rattle.rtps_run.specs.World.{World}
 use Rattle.rtps_run.proofs.Dealt.{answers_in-append}
 use Rattle.rtps_run.proofs.Places.{all_append, all_weaker}
-use Rattle.rtps_planner.specs.Commuting.{answers_at, merged, same_place}
-use Rattle.rtps_planner.specs.Outputs.{StandAmong, sent_in}
+use Rattle.rtps_run.specs.Merged.{answers_at, merged, same_place}
+use Rattle.rtps_run.specs.BatchOutput.{AreAnswersAlong, IsGiven, parts_given, sent_in, told_in}
+use Rattle.rtps_planner.specs.Outputs.{StandAmong}
 use Rattle.rtps_planner.proofs.Gathered.{merged_seen, sorted_merged}
 use Rattle.rtps_planner.proofs.Gathering.{list_at}
-use Rattle.dds_participant.specs.BatchOutput.{AreAnswersAlong, IsGiven, parts_given, told_in}
-use Rattle.dds_participant.specs.declared.batch_output.BatchOutput.{BatchOutput}
+use Rattle.rtps_run.specs.declared.batch_output.BatchOutput.{BatchOutput}
 use Rattle.dds_participant.proofs.Giving.{told_at}
 
 -- ---- what is by place is at places that there are
@@ -64,8 +64,8 @@ module _ {V M : Type 0} (f : V → M) (before after : World M) (given : BatchOut
 
   answers_are : map answer_view outcome.answers.items ≡ answers_in (merged (parts_given f given) (length outputs) places)
   answers_are =
-      sorted_merged given.answers.items outputs places outcome has is.places (stand_among places (map reader.answer_view given.answers.items) is.said)
-      (λ rank. stand_among places (sent_in outputs rank) (is.answers rank))
+      sorted_merged given.answers.items outputs places outcome has is.in_order.rising (stand_among places (map reader.answer_view given.answers.items) is.in_order.said)
+      (λ rank. stand_among places (sent_in outputs rank) (is.in_order.sent rank))
       ∙ sym (merged_seen (parts_given f given) (length outputs) places)
 
   notices_are : (rank : ℕ) (other : Vec (Notice V) Global) → rank < length outputs → notices_in f (get_or outcome.notices.items rank other) ≡ told_in f outputs rank

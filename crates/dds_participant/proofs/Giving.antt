@@ -14,8 +14,9 @@ use Rattle.rtps_run.specs.Run.{world_run}
 use Rattle.rtps_run.specs.Seen.{notices_by, reader_count}
 use Rattle.rtps_run.specs.World.{NoticeOf, World, sent_by}
 use Rattle.rtps_planner.specs.declared.jobs.Plan.{Plan}
-use Rattle.rtps_planner.specs.Commuting.{PartsByRank, answers_at, merged, merged_below, notices_at, parts_of, spoken}
-use Rattle.rtps_planner.specs.Outputs.{AreRising, sent_in}
+use Rattle.rtps_run.specs.Merged.{AreRising, PartsByRank, answers_at, merged, merged_below, notices_at}
+use Rattle.rtps_planner.specs.Commuting.{parts_of, spoken}
+use Rattle.rtps_run.specs.BatchOutput.{AreAnswersAlong, AreNoticesAlong, IsGiven, parts_given, sent_in, told_in}
 use Rattle.rtps_planner.specs.Job.{discovery_answers, job_of, job_sent, job_told}
 use Rattle.rtps_planner.specs.Plan.{IsPlan}
 use Rattle.rtps_planner.proofs.Alone.{parts}
@@ -23,8 +24,7 @@ use Rattle.rtps_planner.proofs.Along.{answers_spoken, sent_spoken, spoken_rises,
 use Rattle.rtps_planner.proofs.Judged.{sent_at, sent_past}
 use Rattle.rtps_planner.proofs.Spoken.{by_spoken}
 use Rattle.dds_participant.specs.Batch.{shares_in}
-use Rattle.dds_participant.specs.BatchOutput.{AreAnswersAlong, AreNoticesAlong, IsGiven, parts_given, told_in}
-use Rattle.dds_participant.specs.declared.batch_output.BatchOutput.{BatchOutput}
+use Rattle.rtps_run.specs.declared.batch_output.BatchOutput.{BatchOutput}
 use Rattle.dds_participant.specs.declared.readers.Readers.{Readers}
 use Rattle.dds_participant.specs.Readers.{AreRun}
 use Rattle.dds_participant.proofs.Taken.{same_count}
@@ -132,10 +132,12 @@ module _ {V M : Type 0} (f : V → M) (decoding : Decoding M) (w : World M) (es 
     readers = total ∙ sym (same_count decoding w os steady);
     put = by_spoken decoding w os rise steady ∙ ap (λ l. w.put ++ l) (sym merged_are);
     told = λ rank below. (parts decoding w os rank).told (subst (λ n. rank < n) total below) ∙ ap (λ l. notices_by rank w.put ++ l) (sym (told_is rank below));
-    places = subst AreRising (sym placed) (spoken_rises w.known os rise);
-    said = subst (λ l. AreAnswersAlong l (map reader.answer_view given.answers.items)) (sym placed) (subst (AreAnswersAlong places) (sym answers_are) (answers_spoken w.known os rise));
-    notices = notices_along;
-    answers = sent_by_place;
+    in_order = record {
+      rising = subst AreRising (sym placed) (spoken_rises w.known os rise);
+      said = subst (λ l. AreAnswersAlong l (map reader.answer_view given.answers.items)) (sym placed) (subst (AreAnswersAlong places) (sym answers_are) (answers_spoken w.known os rise));
+      told = notices_along;
+      sent = sent_by_place;
+    };
   }
 
 pub run_gives : {V M : Type 0} (f : V → M) (decoding : Decoding M) (w : World M) (es : List EventView) (os hs : List Occurrence) (plan : Plan Global) (kept : RegistryView) (old : List ReaderView) (p : Readers V) (given : BatchOutput V)

@@ -10,8 +10,8 @@ use Rattle.rtps_run.specs.Outcome.{Adds}
 use Rattle.rtps_run.specs.Seen.{notices_by}
 use Rattle.rtps_run.specs.World.{World}
 use Rattle.dds_outlet.specs.Ring.{Sending}
-use Rattle.dds_participant.specs.BatchOutput.{IsGiven, told_in}
-use Rattle.dds_participant.specs.declared.batch_output.BatchOutput.{BatchOutput}
+use Rattle.rtps_run.specs.BatchOutput.{IsGiven, told_in}
+use Rattle.rtps_run.specs.declared.batch_output.BatchOutput.{BatchOutput}
 use Rattle.dds_participant.specs.HandOff.{IsHandedOff}
 use Rattle.dds_participant.specs.Handing.{AreHandedOn, IsHandedOn, IsOutcomeHandedOn, listed, reported}
 use Rattle.dds_participant.specs.Ports.{Delivers, PortView, new_port, port_with}

@@ -9,12 +9,11 @@ use Rattle.rtps_run.specs.declared.outcome.Answer.{Answer}
 use Rattle.rtps_run.specs.Outcome.{Adds, answer_view, notices_in}
 use Rattle.rtps_run.specs.Seen.{answers_in, notices_by}
 use Rattle.rtps_run.specs.World.{World}
-use Rattle.rtps_planner.specs.Commuting.{merged}
-use Rattle.rtps_planner.specs.Outputs.{sent_in}
-use Rattle.dds_participant.specs.BatchOutput.{AreAnswersAlong, AreNoticesAlong, IsGiven, told_in}
+use Rattle.rtps_run.specs.Merged.{merged}
+use Rattle.rtps_run.specs.BatchOutput.{AreAnswersAlong, AreNoticesAlong, IsGiven, sent_in, told_in}
 use Rattle.dds_participant.specs.Handing.{AreHandedOn, listed}
 use Rattle.dds_participant.specs.Ports.{NoneAttached, PortView, left_of, port_with, ports_view}
-use Rattle.dds_participant.specs.declared.batch_output.BatchOutput.{BatchOutput}
+use Rattle.rtps_run.specs.declared.batch_output.BatchOutput.{BatchOutput}
 use Rattle.std.specs.declared.vec.Vec.{Vec}
 use Rattle.dds_participant.specs.declared.ports.Port.{Port}
 
@@ -88,10 +87,12 @@ given_same {V} f before after whole outputs e h = record {
   put = h.put
       ∙ ap (λ (os : List (Output V Global)). before.put ++ merged (record { answers = map reader.answer_view whole.answers.items; told = told_in f os; sent = sent_in os }) (length os) whole.places.items) (sym e);
   told = λ rank below. h.told rank (subst (λ (os : List (Output V Global)). rank < length os) e below) ∙ ap (λ (os : List (Output V Global)). notices_by rank before.put ++ told_in f os rank) (sym e);
-  places = h.places;
-  said = h.said;
-  notices = λ rank. subst (λ (os : List (Output V Global)). AreNoticesAlong whole.places.items (told_in f os rank)) (sym e) (h.notices rank);
-  answers = λ rank. subst (λ (os : List (Output V Global)). AreAnswersAlong whole.places.items (sent_in os rank)) (sym e) (h.answers rank);
+  in_order = record {
+    rising = h.in_order.rising;
+    said = h.in_order.said;
+    told = λ rank. subst (λ (os : List (Output V Global)). AreNoticesAlong whole.places.items (told_in f os rank)) (sym e) (h.in_order.told rank);
+    sent = λ rank. subst (λ (os : List (Output V Global)). AreAnswersAlong whole.places.items (sent_in os rank)) (sym e) (h.in_order.sent rank);
+  };
 }
 
 pub outcome_same : {V M : Type 0} (f : V → M) (before after : World M) (whole outcome : Outcome V Global) → outcome.notices.items ≡ whole.notices.items → outcome.answers ≡ whole.answers → Adds f before after whole → Adds f before after outcome

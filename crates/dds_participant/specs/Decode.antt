@@ -1,5 +1,5 @@
 -- Datagrams that are decoded piece by piece, of 64 each.
-use Rattle.std.specs.Prelude.{◌≡◌, ℕ, ◌+◌, ◌*◌, List, [], ◌∷◌, IfOk, Result, Ok, Err, drop, map, take}
+use Rattle.std.specs.Prelude.{◌≡◌, ℕ, ◌+◌, ◌*◌, ◌&&◌, nat_lt, Bool, List, [], ◌∷◌, IfOk, Result, Ok, Err, drop, map, take}
 use Rattle.rtps_types.specs.declared.datagram.Datagram.{Datagram}
 use Rattle.rtps_types.specs.declared.identity.GuidPrefix.{GuidPrefix}
 use Rattle.rtps_receiver.specs.declared.counters.Counters.{Counters}
@@ -12,6 +12,10 @@ use Rattle.dds_participant.specs.declared.decode.Received.{Received}
 -- the octets of datagrams
 abbrev pub octets_of : List Datagram → List (List ℕ)
 octets_of datagrams = map (λ d. d.bytes.now) datagrams
+
+-- a batch is decoded by several threads: there are several workers, and more than 2,048 datagrams
+abbrev pub is_decoded_apart : ℕ → ℕ → Bool
+is_decoded_apart datagrams workers = nat_lt 1 workers && nat_lt 2048 datagrams
 
 -- the events of datagrams, and the counters after them
 pub record IsDecoded (own : GuidPrefix) (first : ℕ) (datagrams : List Datagram) (before : Counters)

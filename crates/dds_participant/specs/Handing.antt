@@ -6,7 +6,7 @@ use Rattle.rtps_reader.specs.declared.notice.Notice.{Notice}
 use Rattle.rtps_reader.specs.declared.notice.Output.{Output}
 use Rattle.rtps_run.specs.declared.outcome.Outcome.{Outcome}
 use Rattle.dds_participant.specs.Ports.{HasRoomFor, PortView, left_of, port_with}
-use Rattle.dds_participant.specs.declared.batch_output.BatchOutput.{BatchOutput}
+use Rattle.rtps_run.specs.declared.batch_output.BatchOutput.{BatchOutput}
 use Rattle.dds_participant.specs.declared.ports.Port.{Port}
 
 -- by rank, the notices of each reader: in the lists of a batch, and in an outcome

@@ -1,5 +1,4 @@
 pub mod Batch
-pub mod BatchOutput
 pub mod Decode
 pub mod HandOff
 pub mod Handing

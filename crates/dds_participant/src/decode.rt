@@ -8,7 +8,7 @@ ghost use Rattle.rtps_receiver.specs.Counters.{AreCounts};
 ghost use Rattle.rtps_receiver.specs.Events.{view};
 ghost use Rattle.rtps_run.specs.Input.{arrived, events_from};
 ghost use Rattle.rtps_planner.specs.Stamped.{AreStamped};
-ghost use Rattle.dds_participant.specs.Decode.{AllOk, IsDecoded, IsPiece, all_added, events_given};
+ghost use Rattle.dds_participant.specs.Decode.{AllOk, IsDecoded, IsPiece, all_added, events_given, is_decoded_apart};
 
 use rayon::prelude::*;
 use rtps_planner::Stamped;
@@ -126,6 +126,13 @@ fn joined<'a>(
     Ok(Received { events, counters })
 }
 
+/// Whether a batch of this many datagrams is decoded by several threads.
+fn is_decoded_apart(datagrams: usize, workers: usize) -> bool
+    ensures { result ≡ is_decoded_apart datagrams workers }
+{
+    workers > 1 && datagrams > ALONE
+}
+
 /// Returns the events of these datagrams, in order, and the counters, which are `counters` before
 /// them. An error is a refused growth.
 #[tactic(auto, using(rtps_receiver::proofs::Summing::counts_after))]
@@ -148,7 +155,7 @@ pub(crate) fn decoded<'a, R: Threads + Sync>(
         first,
         datagrams,
     } = from;
-    if workers == 1 || datagrams.len() <= ALONE {
+    if !is_decoded_apart(datagrams.len(), workers) {
         return decoded_alone(alloc, own, first, datagrams, counters);
     }
     joined(

@@ -4,12 +4,12 @@
 
 mod attach;
 mod batch;
-mod batch_output;
 mod counted;
 mod decode;
 mod handing;
 pub mod laws;
 mod moving;
+mod outcome;
 mod participant;
 mod ports;
 mod publish;
@@ -19,7 +19,6 @@ mod tests;
 mod tick;
 
 pub use batch::{Workers, is_batch};
-pub use batch_output::BatchOutput;
 pub use participant::Participant;
 pub use ports::AttachFault;
 pub use publish::PublishFault;

@@ -20,12 +20,11 @@ use Rattle.rtps_run.specs.Input.{Input, arrived}
 use Rattle.rtps_run.specs.Seen.{answers_in, status_seen}
 use Rattle.rtps_run.specs.World.{AnswerView, World, answer_by}
 use Rattle.rtps_run.proofs.Dealt.{answers_in-append}
-use Rattle.rtps_planner.specs.Commuting.{answers_at, merged}
-use Rattle.rtps_planner.specs.Outputs.{sent_in}
+use Rattle.rtps_run.specs.Merged.{answers_at, merged}
+use Rattle.rtps_run.specs.BatchOutput.{AreAnswersAlong, IsGiven, parts_given, sent_in}
 use Rattle.rtps_planner.proofs.Gathered.{along, below, here, merged_seen}
-use Rattle.dds_participant.specs.BatchOutput.{AreAnswersAlong, IsGiven, parts_given}
 use Rattle.dds_participant.specs.Decode.{octets_of}
-use Rattle.dds_participant.specs.declared.batch_output.BatchOutput.{BatchOutput}
+use Rattle.rtps_run.specs.declared.batch_output.BatchOutput.{BatchOutput}
 use Rattle.dds_participant.specs.Kept.{ParticipantView}
 use Rattle.dds_participant.specs.Ports.{NoneAttached}
 use Rattle.dds_topic.specs.Decoding.{Decoding}
@@ -112,8 +111,8 @@ answers_more f before after given is =
     let said = map reader.answer_view given.answers.items in
     let whole : length (along said (sent_in outputs) count places) ≡ length said + sent_below (λ rank. length (sent_in outputs rank)) count =
     along_length said (sent_in outputs) count places
-    ∙ ap₂ (λ a b. a + b) (ap length is.said)
-    (same_sums said (sent_in outputs) (λ rank. length (spread said (sent_in outputs) places (sent_in outputs rank))) (λ rank. length (sent_in outputs rank)) count (λ rank. ap length (is.answers rank))) in
+    ∙ ap₂ (λ a b. a + b) (ap length is.in_order.said)
+    (same_sums said (sent_in outputs) (λ rank. length (spread said (sent_in outputs) places (sent_in outputs rank))) (λ rank. length (sent_in outputs rank)) count (λ rank. ap length (is.in_order.sent rank))) in
     ap length (ap answers_in is.put ∙ answers_in-append before.put (merged (parts_given f given) count places))
     ∙ length-append (answers_in before.put) (answers_in (merged (parts_given f given) count places))
     ∙ ap (λ n. answer_count before + n)

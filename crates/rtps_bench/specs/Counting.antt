@@ -11,10 +11,10 @@ use Rattle.rtps_records.specs.Text.{datagrams_of}
 use Rattle.rtps_reader.specs.declared.status.Status.{Status}
 use Rattle.rtps_run.specs.Seen.{answers_in, reader_count, status_seen}
 use Rattle.rtps_run.specs.World.{World}
-use Rattle.dds_participant.specs.BatchOutput.{IsGiven}
+use Rattle.rtps_run.specs.BatchOutput.{IsGiven}
 use Rattle.dds_participant.specs.Kept.{ParticipantView}
 use Rattle.dds_participant.specs.Ports.{NoneAttached}
-use Rattle.dds_participant.specs.declared.batch_output.BatchOutput.{BatchOutput}
+use Rattle.rtps_run.specs.declared.batch_output.BatchOutput.{BatchOutput}
 use Rattle.rtps_bench.specs.declared.counts.Counts.{Counts}
 use Rattle.rtps_bench.specs.Inputs.{StandsAt, run, run_by}
 

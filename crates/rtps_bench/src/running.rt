@@ -12,11 +12,12 @@ ghost use Rattle.rtps_bench.specs.Inputs.{StandsAt, run_by};
 ghost use Rattle.rtps_bench.specs.Reading.{AreFew};
 
 use crate::counts::Counts;
-use dds_participant::{BatchOutput, Participant, Workers};
+use dds_participant::{Participant, Workers};
 use dds_topic::{Catalog, Shapes};
 use rtps_discovery::Config;
 use rtps_reader::Status;
 use rtps_records::Batch;
+use rtps_run::BatchOutput;
 use rtps_shards::NoGate;
 use rtps_types::Datagram;
 use std::alloc::{AllocError, Global};

@@ -25,9 +25,10 @@ use Rattle.rtps_run.specs.Seen.{answers_in, notices_by, reader_count}
 use Rattle.rtps_run.specs.World.{World, answer_by, doings, known_then}
 use Rattle.rtps_run.proofs.Dealt.{answers_in-append}
 use Rattle.rtps_run.proofs.Places.{all_append, all_map, all_weaker}
-use Rattle.rtps_planner.specs.Commuting.{answers_at, merged, parts_of, same_place}
+use Rattle.rtps_run.specs.Merged.{AreRising, answers_at, merged, same_place}
+use Rattle.rtps_planner.specs.Commuting.{parts_of}
 use Rattle.rtps_planner.specs.Job.{Job, discovery_answer, discovery_answers, job_of, job_sent, job_told}
-use Rattle.rtps_planner.specs.Outputs.{AreRising, IsGathered, IsOutputOf, StandAmong, is_among, parts_in, ranks_of, replies_by, said_in, times}
+use Rattle.rtps_planner.specs.Outputs.{IsGathered, IsOutputOf, StandAmong, is_among, parts_in, ranks_of, replies_by, said_in, times}
 use Rattle.rtps_planner.specs.Plan.{IsPlan, job_at, job_seen, jobs_by}
 use Rattle.rtps_planner.specs.declared.jobs.Job as plan_job
 use Rattle.rtps_planner.specs.declared.jobs.Plan.{Plan}

@@ -16,9 +16,9 @@ use Rattle.rtps_run.specs.Rising.{OccurrencesRise}
 use Rattle.rtps_run.specs.World.{changes_for, doings, known_then}
 use Rattle.rtps_run.proofs.Matched.{told_run}
 use Rattle.rtps_run.proofs.Places.{all_map}
-use Rattle.rtps_planner.specs.Commuting.{answers_at, head_spoken, notices_at, same_place, spoken, spoken_at}
+use Rattle.rtps_run.specs.Merged.{AreRising, answers_at, notices_at, same_place}
+use Rattle.rtps_planner.specs.Commuting.{head_spoken, spoken, spoken_at}
 use Rattle.rtps_planner.specs.Job.{discovery_answer, discovery_answers, job_of, job_sent, job_told}
-use Rattle.rtps_planner.specs.Outputs.{AreRising}
 use Rattle.rtps_planner.proofs.Alone.{sent_front, sent_run, told_front}
 use Rattle.rtps_planner.proofs.Merged.{AreAfter, AreAt, answer_here, answers_after, front_here, front_there, notice_place, sent_after, sent_here, sent_place, told_after, told_here}
 use Rattle.rtps_planner.proofs.Spoken.{spoken_after}

@@ -31,8 +31,10 @@ use Rattle.rtps_run.proofs.Dealt.{answers_in-append}
 use Rattle.rtps_run.proofs.OneOrder.{Rises, filter-map, filter_none, one_order, rises_map, rises_sorted, rises_then, stable_by}
 use Rattle.rtps_run.proofs.Places.{all_append, all_weaker}
 use Rattle.rtps_run.proofs.Turns.{alike_turns, discovery_first, discovery_turn, equal_turns, later_place, level, lower_first, same_rank, then_first, then_second, turn_at, turns_total}
-use Rattle.rtps_planner.specs.Commuting.{PartsByRank, answers_at, is_of, merged, merged_below, notices_at, same_place}
-use Rattle.rtps_planner.specs.Outputs.{AreRising, StandAmong, sent_in}
+use Rattle.rtps_run.specs.Merged.{AreRising, PartsByRank, answers_at, merged, merged_below, notices_at, same_place}
+use Rattle.rtps_planner.specs.Commuting.{is_of}
+use Rattle.rtps_run.specs.BatchOutput.{sent_in}
+use Rattle.rtps_planner.specs.Outputs.{StandAmong}
 use Rattle.rtps_planner.proofs.Judged.{sent_past}
 use Rattle.rtps_planner.proofs.Merged.{not_later, same_self}
 

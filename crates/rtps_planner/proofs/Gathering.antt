@@ -14,8 +14,9 @@ use Rattle.rtps_run.specs.declared.outcome.Outcome.{Outcome}
 use Rattle.rtps_run.specs.Outcome.{IsOutcomeOf, answer_view}
 use Rattle.rtps_run.specs.Seen.{answers_in}
 use Rattle.rtps_planner.specs.declared.jobs.Rest.{Rest}
-use Rattle.rtps_planner.specs.Commuting.{merged, same_place}
-use Rattle.rtps_planner.specs.Outputs.{AreRising, IsGathered, StandAmong, fault_of, is_among, outputs_with, parts_in, ranks_of, replies_by, said_in, sent_in, times}
+use Rattle.rtps_run.specs.Merged.{AreRising, merged, same_place}
+use Rattle.rtps_run.specs.BatchOutput.{sent_in}
+use Rattle.rtps_planner.specs.Outputs.{IsGathered, StandAmong, fault_of, is_among, outputs_with, parts_in, ranks_of, replies_by, said_in, times}
 use Rattle.rtps_planner.proofs.Adding.{along_same}
 use Rattle.rtps_planner.proofs.Gathered.{along, merged_seen, sorted_merged}
 use Rattle.rtps_planner.proofs.Judged.{IsRight, any_at, count_with, given_planned, moved_at, none_sent, one_sent, right, sent_at, sent_past, unplanned, untouched}

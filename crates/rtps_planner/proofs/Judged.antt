@@ -10,7 +10,8 @@ use Rattle.rtps_reader.specs.declared.notice.Output.{Output}
 use Rattle.rtps_reader.specs.Notice as reader
 use Rattle.rtps_planner.specs.declared.outputs.GatherFault.{GatherFault}
 use Rattle.rtps_planner.specs.declared.outputs.GatherFault.TheVariants as fault
-use Rattle.rtps_planner.specs.Outputs.{IsJudged, fault_of, is_among, outputs_with, ranks_of, replies_by, sent_in, times}
+use Rattle.rtps_run.specs.BatchOutput.{sent_in}
+use Rattle.rtps_planner.specs.Outputs.{IsJudged, fault_of, is_among, outputs_with, ranks_of, replies_by, times}
 
 -- ---- where nothing is wrong
 

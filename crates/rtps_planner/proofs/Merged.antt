@@ -26,7 +26,8 @@ use Rattle.rtps_run.proofs.Matched.{told_run}
 use Rattle.rtps_run.proofs.OneOrder.{filter_none}
 use Rattle.rtps_run.proofs.Places.{all_append, all_map, all_weaker}
 use Rattle.rtps_run.proofs.Turns.{no_answer, sends_at, tells_at}
-use Rattle.rtps_planner.specs.Commuting.{IsByPlace, PartsByRank, answers_at, merged, merged_below, notices_at, parts_of, same_place}
+use Rattle.rtps_run.specs.Merged.{PartsByRank, answers_at, merged, merged_below, notices_at, same_place}
+use Rattle.rtps_planner.specs.Commuting.{IsByPlace, parts_of}
 use Rattle.rtps_planner.specs.Job.{discovery_answer, discovery_answers, job_of, job_sent, job_told}
 use Rattle.rtps_planner.proofs.Alone.{sent_front, sent_run, told_front}
 

@@ -16,7 +16,8 @@ use Rattle.rtps_run.specs.Seen.{reader_count}
 use Rattle.rtps_run.specs.World.{NoticeOf, World, changes_for, count_after, discovery_puts, doings, known_after_event, known_then, puts_below, sent_by, world_after}
 use Rattle.rtps_run.proofs.Counting.{steady_count, steady_rest}
 use Rattle.rtps_run.proofs.Places.{all_append}
-use Rattle.rtps_planner.specs.Commuting.{IsBySpoken, PartsByRank, answers_at, head_spoken, merged, merged_below, notices_at, parts_of, spoken}
+use Rattle.rtps_run.specs.Merged.{PartsByRank, answers_at, merged, merged_below, notices_at}
+use Rattle.rtps_planner.specs.Commuting.{IsBySpoken, head_spoken, parts_of, spoken}
 use Rattle.rtps_planner.specs.Job.{job_of, job_sent, job_told}
 use Rattle.rtps_planner.proofs.Merged.{AllAfter, merged_first}
 

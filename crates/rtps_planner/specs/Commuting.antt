@@ -1,16 +1,16 @@
 -- The results of a run, reader by reader, and the order of what it puts out.
-use Rattle.std.specs.Prelude.{◌≡◌, ℕ, zero, suc, ◌<◌, ◌==◌, ◌&&◌, List, [], ◌∷◌, ◌++◌, map, filter, Bool, true, false, Option, Some, None, if◌then◌else◌}
+use Rattle.std.specs.Prelude.{◌≡◌, ℕ, ◌<◌, ◌==◌, List, [], ◌∷◌, ◌++◌, map, Bool, true, false, Option, Some, None, if◌then◌else◌}
 use Rattle.rtps_types.specs.declared.place.Place.{Place}
 use Rattle.rtps_discovery.specs.Changes.{ChangeAt, changes}
 use Rattle.rtps_discovery.specs.Known.{Known, moved, passed}
 use Rattle.dds_topic.specs.Decoding.{Decoding}
 use Rattle.rtps_proxy.specs.Replies.{ReplyView}
-use Rattle.rtps_reader.specs.declared.notice.Notice.{Notice}
 use Rattle.rtps_reader.specs.Reader.{Reader}
+use Rattle.rtps_run.specs.Merged.{PartsByRank, merged}
 use Rattle.rtps_run.specs.Occurrence.{Occurrence, Passes, Came, Joins, Parts, head_of, place_of}
 use Rattle.rtps_run.specs.Run.{world_run}
 use Rattle.rtps_run.specs.Seen.{notices_by, reader_count}
-use Rattle.rtps_run.specs.World.{ReportView, NoticeOf, AnswerOf, World, known_then, sent_by}
+use Rattle.rtps_run.specs.World.{ReportView, NoticeOf, AnswerOf, World, known_then}
 use Rattle.rtps_planner.specs.Job.{discovery_answers, job_of, known_after_all, job_run, job_sent, job_told}
 
 -- ---- each reader by itself
@@ -49,40 +49,6 @@ pub record IsDiscovered {M : Type 0} (decoding : Decoding M) (w : World M) (os :
       ≡ answers_by None w.put ++ discovery_answers w.known os
 
 -- ---- all readers together
-
--- discovery's answers, and by rank the notices and the answers of each reader
-pub record PartsByRank (M : Type 0) : Type 0 where
-  pub answers : List (Place × ReplyView)
-  pub told : ℕ → List (Notice M)
-  pub sent : ℕ → List (Place × ReplyView)
-
--- two places are the same
-abbrev pub same_place : Place → Place → Bool
-same_place a b = a.datagram == b.datagram && a.submessage == b.submessage
-
--- the answers at a place, in their order
-abbrev pub answers_at : Place → List (Place × ReplyView) → List (Place × ReplyView)
-answers_at place answers = filter (λ s. same_place s.0 place) answers
-
--- the notices at a place, in their order
-abbrev pub notices_at : {M : Type 0} → Place → List (Notice M) → List (Notice M)
-notices_at place notices = filter (λ n. same_place n.place place) notices
-
--- at one place, for the ranks below a count in ascending order: the reader's notices, then its
--- answer
-abbrev pub merged_below : {M : Type 0} → Place → PartsByRank M → ℕ → List (ReportView M)
-merged_below place parts zero = []
-merged_below place parts (suc rank) =
-    merged_below place parts rank
-    ++ (map (NoticeOf rank) (notices_at place (parts.told rank))
-    ++ map (sent_by (Some rank)) (answers_at place (parts.sent rank)))
-
--- place by place: discovery's answer, and then the readers by rank
-abbrev pub merged : {M : Type 0} → PartsByRank M → ℕ → List Place → List (ReportView M)
-merged parts count [] = []
-merged parts count (place ∷ places) =
-    (map (sent_by None) (answers_at place parts.answers) ++ merged_below place parts count)
-    ++ merged parts count places
 
 -- discovery's answers over a list of occurrences, and the notices and answers of each reader's job
 abbrev pub parts_of : {M : Type 0} → Decoding M → Known → (ℕ → Reader) → List Occurrence

@@ -1,7 +1,7 @@
 -- How the outputs of a batch's jobs are merged (DDSI-RTPS 8.4.10): which outputs are refused, and
 -- the outcome of the others.
-use Rattle.std.specs.Prelude.{◌≡◌, ◌⊎◌, ℕ, zero, suc, ◌<◌, ◌==◌, nat_lt, not, Bool, List, [], ◌∷◌, ◌++◌, length, map, filter, Option, Some, None, Result, Ok, Err, if◌then◌else◌, set, slice_index_or, true, false}
-use Rattle.std.specs.List.{All, AllByRecursion, Contains, list_any}
+use Rattle.std.specs.Prelude.{◌≡◌, ◌⊎◌, ℕ, ◌<◌, ◌==◌, nat_lt, not, Bool, List, [], ◌∷◌, ◌++◌, length, map, filter, Option, Some, None, Result, Ok, Err, if◌then◌else◌, set, slice_index_or, true, false}
+use Rattle.std.specs.List.{All, Contains, list_any}
 use Rattle.std.specs.declared.vec.Vec.{Vec}
 use Rattle.rtps_types.specs.declared.place.Place.{Place}
 use Rattle.dds_topic.specs.Decoding.{Decoding}
@@ -10,15 +10,14 @@ use Rattle.rtps_reader.specs.declared.notice.Notice.{Notice}
 use Rattle.rtps_reader.specs.declared.notice.Output.{Output}
 use Rattle.rtps_reader.specs.Notice as reader
 use Rattle.rtps_run.specs.declared.outcome.Outcome.{Outcome}
+use Rattle.rtps_run.specs.Merged.{AreRising, PartsByRank, merged, same_place}
 use Rattle.rtps_run.specs.Occurrence.{Occurrence}
 use Rattle.rtps_run.specs.Outcome.{answer_view}
-use Rattle.rtps_run.specs.Presentation.{not_after}
 use Rattle.rtps_run.specs.Seen.{answers_in}
 use Rattle.rtps_run.specs.World.{World}
 use Rattle.rtps_planner.specs.declared.jobs.Rest.{Rest}
 use Rattle.rtps_planner.specs.declared.outputs.GatherFault.{GatherFault}
 use Rattle.rtps_planner.specs.declared.outputs.GatherFault.TheVariants as fault
-use Rattle.rtps_planner.specs.Commuting.{PartsByRank, merged, same_place}
 use Rattle.rtps_planner.specs.Job.{job_of, job_sent, job_told}
 
 -- ---- which outputs are refused
@@ -56,13 +55,6 @@ abbrev pub outputs_with : {V A : Type 0} → List (Output V A) → List (ℕ × 
 outputs_with by_rank [] = by_rank
 outputs_with by_rank (o ∷ os) = outputs_with (set by_rank o.0 o.1) os
 
--- the answers of the reader of a rank, in a list of outputs by rank; none if there is no such
--- reader
-abbrev pub sent_in : {V A : Type 0} → List (Output V A) → ℕ → List (Place × ReplyView)
-sent_in [] rank = []
-sent_in (o ∷ os) zero = map reader.answer_view o.answers.items
-sent_in (o ∷ os) (suc rank) = sent_in os rank
-
 -- the notices and the answers of the reader of a rank, in a list of outputs with their ranks
 abbrev pub told_by : {V A : Type 0} → List (ℕ × Output V A) → ℕ → List (Notice V)
 told_by [] rank = []
@@ -87,11 +79,6 @@ parts_in rest outputs = record {
   told = told_by outputs;
   sent = replies_by outputs;
 }
-
--- each place comes after those before it in the list
-abbrev pub AreRising : List Place → Type 0
-AreRising [] = Unit {0}
-AreRising (p ∷ ps) = AllByRecursion (λ q. not_after q p ≡ false) ps × AreRising ps
 
 -- the place of each of these answers is among these places
 abbrev pub StandAmong : List Place → List (Place × ReplyView) → Type 0

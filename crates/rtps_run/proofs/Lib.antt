@@ -22,3 +22,5 @@ pub mod Unheard
 pub mod Heads
 pub mod Turns
 pub mod Rows
+mod OrderSteps
+mod OrderStart

@@ -11,3 +11,6 @@ pub mod Outcome
 pub mod Turn
 pub mod Presentation
 pub mod Rising
+pub mod Merged
+pub mod BatchOutput
+pub mod Order

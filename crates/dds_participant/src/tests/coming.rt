@@ -10,7 +10,7 @@ use super::{DATA, Said, config, reader_config, said_by, unmatched};
 use crate::*;
 use dds_topic::{Shape, Shapes};
 use rtps_discovery::Config;
-use rtps_run::{EngineError, Outcome, Report};
+use rtps_run::{BatchOutput, EngineError, Outcome, Report};
 use rtps_serial::SerialEngine;
 use rtps_shards::NoGate;
 use rtps_types::Datagram;

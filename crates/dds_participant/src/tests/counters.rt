@@ -5,6 +5,7 @@ use super::routed::{COMES, ROUTED};
 use super::*;
 use rtps_planner::PassedOver;
 use rtps_receiver::Counters;
+use rtps_run::BatchOutput;
 
 /// A datagram of 19 octets, which is too short for a header.
 const SHORT: &[u8] = b"RTPS\x02\x05\x00\x00\x0a\x0a\x0a\x0a\x0a\x0a\x0a\x0a\x0a\x0a\x0a";

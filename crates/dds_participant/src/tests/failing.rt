@@ -9,7 +9,7 @@ use crate::*;
 use dds_outlet::{Inlet, outlet};
 use dds_topic::{FailingCatalog, Shape, Shapes};
 use rtps_reader::Status;
-use rtps_run::EngineError;
+use rtps_run::{BatchOutput, EngineError};
 use rtps_shards::NoGate;
 use std::alloc::Global;
 use std::sync::Wait;

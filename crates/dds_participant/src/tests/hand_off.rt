@@ -7,6 +7,7 @@ use crate::*;
 use dds_outlet::{Inlet, outlet};
 use dds_topic::{Shape, Shapes};
 use rtps_reader::Notice;
+use rtps_run::BatchOutput;
 use rtps_serial::SerialEngine;
 use rtps_shards::NoGate;
 use rtps_types::Datagram;

@@ -5,6 +5,7 @@ ghost use Rattle.std.specs.Prelude.{◌≤◌};
 use super::{DATA, HEARTBEAT, LATER, at_once, config};
 use crate::*;
 use dds_topic::{Shape, Shapes};
+use rtps_run::BatchOutput;
 use rtps_shards::NoGate;
 use rtps_types::Place;
 use std::alloc::Global;

@@ -6,7 +6,7 @@ use super::routed::COMES;
 use super::{Said, said_by, unmatched};
 use crate::*;
 use dds_topic::{Shape, Shapes};
-use rtps_run::Outcome;
+use rtps_run::{BatchOutput, Outcome};
 use rtps_shards::NoGate;
 use rtps_types::{Datagram, Place};
 use std::alloc::{AllocError, Global};

@@ -12,6 +12,7 @@ use super::{
 use crate::*;
 use dds_outlet::{Inlet, outlet};
 use dds_topic::{Shape, Shapes};
+use rtps_run::BatchOutput;
 use rtps_shards::NoGate;
 use std::alloc::{AllocError, Global};
 use std::test::Fail;

@@ -1,7 +1,7 @@
 use Rattle.std.proofs.Common.{◌≡◌, ◌++◌, ◌∙◌, ap, length, map, refl, subst, sym}
 use Rattle.rtps_run.specs.Input.{arrived}
 use Rattle.rtps_run.specs.World.{World}
-use Rattle.dds_participant.specs.BatchOutput.{HoldsNothing, IsGiven}
+use Rattle.rtps_run.specs.BatchOutput.{HoldsNothing, IsGiven}
 use Rattle.dds_participant.specs.declared.counted.Counted.{Counted}
 use Rattle.dds_participant.specs.Kept.{ParticipantView}
 use Rattle.rtps_run.specs.Standing.{EngineView}

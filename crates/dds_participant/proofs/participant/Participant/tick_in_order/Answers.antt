@@ -1,7 +1,7 @@
 use Rattle.std.proofs.Common.{◌≡◌, ◌++◌, ◌∷◌, [], ◌∙◌, ap, length, refl, subst, sym}
 use Rattle.rtps_run.specs.Input.{Tick}
 use Rattle.rtps_run.specs.World.{World}
-use Rattle.dds_participant.specs.BatchOutput.{HoldsNothing, IsGiven}
+use Rattle.rtps_run.specs.BatchOutput.{HoldsNothing, IsGiven}
 use Rattle.dds_participant.specs.Kept.{ParticipantView}
 use Rattle.rtps_run.specs.Standing.{EngineView}
 use Rattle.dds_participant.specs.Ports.{NoneAttached}

@@ -2,7 +2,7 @@ use Rattle.std.proofs.Common.{◌∙◌, ap, length}
 use Rattle.std.proofs.lemmas.List.{length-map}
 use Rattle.rtps_run.proofs.Answered.{if_ok_then}
 use Rattle.dds_participant.proofs.Dealing.{deals}
-use Rattle.dds_participant.proofs.batch_output.outcome_of.Goals as goal
+use Rattle.dds_participant.proofs.outcome.outcome_of.Goals as goal
 
 pub returns-clause-adds : goal.returns-clause-adds
 returns-clause-adds g c before after is =
