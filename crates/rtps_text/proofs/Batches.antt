@@ -11,139 +11,102 @@ use Rattle.rtps_records.specs.declared.format.Format.{Format}
 use Rattle.rtps_records.specs.declared.fault.RunFault.{RunFault}
 use Rattle.std.specs.Io.KnownBytes.{Appends}
 use Rattle.std.proofs.Math.Seq.{take-append_seam}
-use Rattle.std.specs.declared.alloc.AllocError.{AllocError}
-use Rattle.std.specs.declared.alloc.Global.{Global}
-use Rattle.std.specs.declared.vec.Vec.{Vec}
 use Rattle.rtps_records.specs.Runs.{Moves, PutsFront}
 use Rattle.rtps_records.proofs.Progress.{EndsHere}
 use Rattle.dds_topic.specs.Decoding.{Decoding}
 use Rattle.rtps_discovery.specs.declared.config.Config.{Config}
-use Rattle.rtps_reader.specs.Notice.{answer_view}
 use Rattle.rtps_text.specs.Inputs.{run}
 use Rattle.rtps_run.specs.Standing.{EngineView}
 use Rattle.rtps_run.specs.Input.{Input}
 use Rattle.rtps_run.specs.Standing as standing
 use Rattle.rtps_text.specs.Ahead.{ReadsAhead, goes_on}
 use Rattle.rtps_text.specs.Inputs.{input_of, inputs_of, run_by}
-use Rattle.rtps_text.proofs.Inputs.{run_count, shown_count}
-use Rattle.rtps_planner.specs.Commuting.{merged}
-use Rattle.rtps_text.specs.Batched.{MovesBefore, TakesRecords}
-use Rattle.rtps_planner.specs.Outputs.{AreRising, sent_in}
+use Rattle.rtps_text.specs.Batched.{TakesRecords, batch_lines}
+use Rattle.rtps_run.specs.BatchOutput.{IsGiven, given_puts}
 use Rattle.rtps_run.specs.World.{World}
-use Rattle.dds_participant.specs.BatchOutput.{AreAnswersAlong, AreNoticesAlong, IsGiven, parts_given, told_in}
 use Rattle.rtps_text.specs.Replayed.{HasSaid, put_line, put_lines}
-use Rattle.rtps_text.specs.Slices.{AreByPlace, AreLeft, AreTexts, all_lines, merged_lines, places_lines, starts, starts_of}
-use Rattle.dds_participant.specs.declared.batch_output.BatchOutput.{BatchOutput}
-use Rattle.rtps_text.specs.declared.slices.Cursor.{Cursor}
-use Rattle.rtps_text.proofs.Along.{places_merged, start_left}
-use Rattle.rtps_text.proofs.Idle.{idle_lines}
+use Rattle.rtps_run.specs.declared.batch_output.BatchOutput.{BatchOutput}
 
--- the lines from the start on are all lines of a batch
-pub start_lines : {C V M : Type 0} (text : C → M → List ℕ) (f : V → M) (given : BatchOutput V) (k catalog : C) (said : ℕ) (readers : List Cursor) (count all : ℕ)
-    → k ≡ catalog → said ≡ 0 → readers ≡ starts_of (parts_given f given) count → count ≡ all
-    → places_lines (text k) (parts_given f given) given.places.items said readers ≡ all_lines (text catalog) f given all
-start_lines text f given k catalog said readers count all same none start counted =
-    ap (λ k. places_lines (text k) (parts_given f given) given.places.items said readers) same
-    ∙ ap (λ n. places_lines (text catalog) (parts_given f given) given.places.items n readers) none
-    ∙ ap (places_lines (text catalog) (parts_given f given) given.places.items 0) (start ∙ ap (starts_of (parts_given f given)) counted)
-    ∙ idle_lines (text catalog) (parts_given f given) given.places.items 0 all
-
--- the lines of a batch are those of its parts, merged
-pub all_merged : {V M : Type 0} (text : M → List ℕ) (f : V → M) (given : BatchOutput V) (count : ℕ) → AreRising given.places.items
-    → AreAnswersAlong given.places.items (map answer_view given.answers.items)
-    → ((rank : ℕ) → AreNoticesAlong given.places.items (told_in f given.outputs.items rank))
-    → ((rank : ℕ) → AreAnswersAlong given.places.items (sent_in given.outputs.items rank))
-    → all_lines text f given count ≡ put_lines text (merged (parts_given f given) count given.places.items)
-all_merged text f given count rising said notices answers =
-    let parts = parts_given f given in
-    let left = start_left parts count given.places.items said notices answers in
-    let whole = sym (append-nil given.places.items) in
-    places_merged text parts count given.places.items [] 0 (starts count) (subst AreRising whole rising)
-    (subst (λ ps. AreLeft parts count ps 0 (starts count)) whole left)
-
--- the lines that workers format are those of the batch
-pub shared_lines : {C V M : Type 0} (text : C → M → List ℕ) (f : V → M) (given : BatchOutput V) (k catalog : C) (readers count : ℕ) → k ≡ catalog → readers ≡ count → AreByPlace f given
-    → merged_lines (text k) f given readers given.places.items ≡ all_lines (text catalog) f given count
-shared_lines text f given k catalog readers count same counted by =
-    ap (λ k. merged_lines (text k) f given readers given.places.items) same
-    ∙ ap (λ n. merged_lines (text catalog) f given n given.places.items) counted
-    ∙ sym (all_merged (text catalog) f given count by.places by.said by.notices by.answers)
-
--- the output of a batch is sorted by place
-pub by_place : {V M : Type 0} (f : V → M) (before after : World M) (given : BatchOutput V) → IsGiven f before after given → AreByPlace f given
-by_place f before after given is = record { places = is.places; said = is.said; notices = is.notices; answers = is.answers }
-
--- the output of a batch is what the batch adds to all that the run puts out, so its lines are what
--- the batch adds to the run's lines
-given_lines : {V M : Type 0} (text : M → List ℕ) (f : V → M) (decoding : Decoding M) (config : Config) (records batch : List Record) (given : BatchOutput V) (count : ℕ)
-    → count ≡ length config.readers.items → IsGiven f (run decoding config records) (run decoding config (records ++ batch)) given
-    → put_lines text (run decoding config records).put ++ all_lines text f given count ≡ put_lines text (run decoding config (records ++ batch)).put
-given_lines text f decoding config records batch given count counted is =
-    let parts = parts_given f given in
-    let outputs = length given.outputs.items in
-    let same : count ≡ outputs = counted ∙ sym (run_count decoding config (records ++ batch)) ∙ sym is.readers in
-    ap (λ n. put_lines text (run decoding config records).put ++ all_lines text f given n) same
-    ∙ ap (λ l. put_lines text (run decoding config records).put ++ l) (all_merged text f given outputs is.places is.said is.notices is.answers)
-    ∙ sym (flat_map-append (put_line text) (run decoding config records).put (merged parts outputs given.places.items))
+-- the results of a batch are what the run puts out more, so their lines are what the batch adds to
+-- the run's lines
+given_lines : {V M : Type 0} (text : M → List ℕ) (f : V → M) (before after : World M)
+    (given : BatchOutput V) → IsGiven f before after given
+    → put_lines text before.put ++ batch_lines text f given ≡ put_lines text after.put
+given_lines text f before after given is =
+    sym (flat_map-append (put_line text) before.put (given_puts f given))
     ∙ ap (put_lines text) (sym is.put)
 
 -- after a batch, the text is what was said before, followed by the lines of the batch
-said_here : {C V M : Type 0} (text : C → M → List ℕ) (f : V → M) (decoding : C → Decoding M) (before after : EngineView C) (batch : List Record) (given : BatchOutput V)
-    → (after.catalog ≡ before.catalog) × (after.config ≡ before.config) → TakesRecords f decoding batch before after given
+said_here : {C V M : Type 0} (text : C → M → List ℕ) (f : V → M) (decoding : C → Decoding M)
+    (before after : EngineView C) (batch : List Record) (given : BatchOutput V)
+    → (after.catalog ≡ before.catalog) × (after.config ≡ before.config)
+    → TakesRecords f decoding batch before after given
     → (records : List Record) (said : List ℕ) → HasSaid text decoding records said before
-    → HasSaid text decoding (records ++ batch) (said ++ all_lines (text after.catalog) f given (length after.statuses)) after
+    → HasSaid text decoding (records ++ batch) (said ++ batch_lines (text after.catalog) f given)
+    after
 said_here {C} text f decoding before after batch given same takes records said h =
-    let standing = takes.stands records h.stands in
     let is = takes.gives records h.stands in
+    let lines = batch_lines (text after.catalog) f given in
     record {
-      stands = standing;
-      lines = ap (λ l. l ++ all_lines (text after.catalog) f given (length after.statuses)) h.lines
-          ∙ ap (λ (k : C). put_lines (text k) (run (decoding k) before.config records).put ++ all_lines (text after.catalog) f given (length after.statuses)) (sym same.0)
-          ∙ ap (λ (config : Config). put_lines (text after.catalog) (run (decoding after.catalog) config records).put ++ all_lines (text after.catalog) f given (length after.statuses)) (sym same.1)
-          ∙ given_lines (text after.catalog) f (decoding after.catalog) after.config records batch given (length after.statuses) (shown_count decoding (records ++ batch) after standing)
-          (subst (λ (config : Config). IsGiven f (run (decoding after.catalog) config records) (run (decoding after.catalog) config (records ++ batch)) given) (sym same.1)
-          (subst (λ (k : C). IsGiven f (run (decoding k) before.config records) (run (decoding k) before.config (records ++ batch)) given) (sym same.0) is));
+      stands = takes.stands records h.stands;
+      lines = ap (λ l. l ++ lines) h.lines
+          ∙ ap (λ (k : C). put_lines (text k) (run (decoding k) before.config records).put ++ lines)
+          (sym same.0)
+          ∙ ap (λ (config : Config). put_lines (text after.catalog)
+          (run (decoding after.catalog) config records).put ++ lines) (sym same.1)
+          ∙ given_lines (text after.catalog) f (run (decoding after.catalog) after.config records)
+          (run (decoding after.catalog) after.config (records ++ batch)) given
+          (subst (λ (config : Config). IsGiven f (run (decoding after.catalog) config records)
+          (run (decoding after.catalog) config (records ++ batch)) given) (sym same.1)
+          (subst (λ (k : C). IsGiven f (run (decoding k) before.config records)
+          (run (decoding k) before.config (records ++ batch)) given) (sym same.0) is));
     }
 
--- the same, with any catalog and number of readers that equal the run's own
-pub said_more : {C V M : Type 0} (text : C → M → List ℕ) (f : V → M) (decoding : C → Decoding M) (records batch : List Record) (said : List ℕ) (before next : EngineView C) (given : BatchOutput V) (k : C) (readers : ℕ)
-    → (next.catalog ≡ before.catalog) × (next.config ≡ before.config) → TakesRecords f decoding batch before next given → next.catalog ≡ k → length next.config.readers.items ≡ readers
-    → HasSaid text decoding records said before → HasSaid text decoding (records ++ batch) (said ++ all_lines (text k) f given readers) next
-said_more {C} text f decoding records batch said before next given k readers same takes own counted h =
-    let here = said_here text f decoding before next batch given same takes records said h in
-    let count : length next.statuses ≡ readers = shown_count decoding (records ++ batch) next here.stands ∙ counted in
+-- the same, with any catalog that equals the run's own
+pub said_more : {C V M : Type 0} (text : C → M → List ℕ) (f : V → M) (decoding : C → Decoding M)
+    (records batch : List Record) (said : List ℕ) (before next : EngineView C)
+    (given : BatchOutput V) (k : C)
+    → (next.catalog ≡ before.catalog) × (next.config ≡ before.config)
+    → TakesRecords f decoding batch before next given → next.catalog ≡ k
+    → HasSaid text decoding records said before
+    → HasSaid text decoding (records ++ batch) (said ++ batch_lines (text k) f given) next
+said_more {C} text f decoding records batch said before next given k same takes own h =
     subst (λ l. HasSaid text decoding (records ++ batch) (said ++ l) next)
-    (ap (λ (c : C). all_lines (text c) f given (length next.statuses)) own ∙ ap (λ r. all_lines (text k) f given r) count) here
+    (ap (λ (c : C). batch_lines (text c) f given) own)
+    (said_here text f decoding before next batch given same takes records said h)
 
 -- if a result is Ok, the inputs that these records are were processed, whatever records came before
-pub takes_records : {C V M U E : Type 0} (f : V → M) (decoding : C → Decoding M) (inputs : List Input) (batch : List Record) (old new : EngineView C) (given : BatchOutput V) (r : Result U E)
+pub takes_records : {C V M U E : Type 0} (f : V → M) (decoding : C → Decoding M)
+    (inputs : List Input) (batch : List Record) (old new : EngineView C) (given : BatchOutput V)
+    (r : Result U E)
     → inputs ≡ inputs_of batch
-    → ((earlier : List Input) → standing.StandsAt decoding earlier old → OnOk r (standing.StandsAt decoding (earlier ++ inputs) new))
-    → ((earlier : List Input) → standing.StandsAt decoding earlier old → OnOk r (IsGiven f (standing.run_by decoding old earlier) (standing.run_by decoding old (earlier ++ inputs)) given))
+    → ((earlier : List Input) → standing.StandsAt decoding earlier old
+    → OnOk r (standing.StandsAt decoding (earlier ++ inputs) new))
+    → ((earlier : List Input) → standing.StandsAt decoding earlier old
+    → OnOk r (IsGiven f (standing.run_by decoding old earlier)
+    (standing.run_by decoding old (earlier ++ inputs)) given))
     → OnOk r (TakesRecords f decoding batch old new given)
 takes_records {C} {V} {M} f decoding inputs batch old new given (Ok x) same stands gives =
-    let whole : (records : List Record) → inputs_of records ++ inputs ≡ inputs_of (records ++ batch) =
+    let whole : (records : List Record) → inputs_of records ++ inputs
+    ≡ inputs_of (records ++ batch) =
     λ records. ap (λ l. inputs_of records ++ l) same ∙ sym (map-append input_of records batch) in
     record {
-      stands = λ records h. subst (λ (l : List Input). standing.StandsAt decoding l new) (whole records) (stands (inputs_of records) h);
-      gives = λ records h. subst (λ (l : List Input). IsGiven f (run_by decoding old records) (standing.run_by decoding old l) given) (whole records) (gives (inputs_of records) h);
+      stands = λ records h. subst (λ (l : List Input). standing.StandsAt decoding l new)
+          (whole records) (stands (inputs_of records) h);
+      gives = λ records h. subst
+          (λ (l : List Input). IsGiven f (run_by decoding old records)
+          (standing.run_by decoding old l) given) (whole records) (gives (inputs_of records) h);
     }
 takes_records f decoding inputs batch old new given (Err e) same stands gives = tt
 
--- if there is no text, the whole text is empty
-pub all_written : (texts : List (Result (Vec ℕ Global) AllocError)) → texts ≡ [] → AreTexts texts []
-unfolding AreTexts
-all_written [] none = refl
-all_written (t ∷ ts) none = absurd (let bad : t ∷ ts ≡ [] = none in cc)
-
--- if there is no text, nothing is to be written after what is kept back
-pub no_texts : (old new : Option (List ℕ)) (octets left : List ℕ) (texts : List (Result (Vec ℕ Global) AllocError)) → texts ≡ [] → Moves old new octets left → MovesBefore old new octets left texts
-no_texts old new octets left texts none moved = ([], all_written texts none, subst (Moves old new octets) (sym (append-nil left)) moved)
-
 -- if a part of these octets was written and the rest is kept back, a prefix of them was written
-pub moved_front : (old new : Option (List ℕ)) (octets left : List ℕ) → Moves old new octets left → PutsFront old new octets
-moved_front old new octets left m =
-    (length m.0, subst (Appends old new) (sym (ap (take (length m.0)) m.2 ∙ take-append_seam m.0 left)) m.1)
+pub moved_front : (old new : Option (List ℕ)) (octets left : List ℕ) → Moves old new octets left
+    → PutsFront old new octets
+moved_front old new octets left m = (
+  length m.0,
+  subst (Appends old new)
+      (sym (ap (take (length m.0)) m.2 ∙ take-append_seam m.0 left)) m.1,
+)
 
 -- the fault that a batch ends with, if there is one
 abbrev pub fault_in : BatchEnd → Option RunFault
@@ -152,16 +115,23 @@ fault_in (Tick moment) = None
 fault_in End = None
 fault_in (Fault fault) = Some fault
 
-pub ends_here : (format : Format) (end : BatchEnd) (m : ℕ) (records : List Record) (here after : Option (List ℕ)) → goes_on end ≡ false → m ≤ 4294967295 → EndsBatch format end m records here after → EndsHere format (fault_in end) m here after
-ends_here format More m records here after not few ends = absurd (let bad : true ≡ false = not in cc)
-ends_here format (Tick moment) m records here after not few ends = absurd (let bad : true ≡ false = not in cc)
+pub ends_here : (format : Format) (end : BatchEnd) (m : ℕ) (records : List Record)
+    (here after : Option (List ℕ)) → goes_on end ≡ false → m ≤ 4294967295
+    → EndsBatch format end m records here after → EndsHere format (fault_in end) m here after
+ends_here format More m records here after not few ends = absurd
+    (let bad : true ≡ false = not in cc)
+ends_here format (Tick moment) m records here after not few ends = absurd
+    (let bad : true ≡ false = not in cc)
 ends_here format End m records here after not few ends = (few, ends)
 ends_here format (Fault fault) m records here after not few ends = ends
 
 -- if nothing may follow a batch and it ends with no fault, the file ends after it
-pub at_end : (format : Format) (end : BatchEnd) (m : ℕ) (records : List Record) (here after : Option (List ℕ)) → goes_on end ≡ false → ((fault : RunFault) → end ≢ Fault fault) → EndsBatch format end m records here after → IsAtEnd here
+pub at_end : (format : Format) (end : BatchEnd) (m : ℕ) (records : List Record)
+    (here after : Option (List ℕ)) → goes_on end ≡ false → ((fault : RunFault) → end ≢ Fault fault)
+    → EndsBatch format end m records here after → IsAtEnd here
 at_end format More m records here after not none ends = absurd (let bad : true ≡ false = not in cc)
-at_end format (Tick moment) m records here after not none ends = absurd (let bad : true ≡ false = not in cc)
+at_end format (Tick moment) m records here after not none ends = absurd
+    (let bad : true ≡ false = not in cc)
 at_end format End m records here after not none ends = ends
 at_end format (Fault fault) m records here after not none ends = absurd (none fault refl)
 
@@ -173,15 +143,26 @@ left_of (Tick moment) count = 2 * (4294967296 - count) + 1
 left_of End count = 0
 left_of (Fault fault) count = 0
 
-pub fewer_left : (format : Format) (before after : Option (List ℕ)) (last end : BatchEnd) (count n m : ℕ) (records : List Record) → goes_on last ≡ true → n ≤ 4294967295
-    → count ≡ n + ticks_in last → ReadsAhead format last before after n m records end → left_of end m < left_of last count
-fewer_left format before after End end count n m records on few is r = absurd (let bad : false ≡ true = on in cc)
-fewer_left format before after (Fault fault) end count n m records on few is r = absurd (let bad : false ≡ true = on in cc)
-fewer_left format before after More More count n m records on few is r = let more = r.reads.few few in omega (arith, is, r.reads.count, r.reads.ends.0, more, few)
-fewer_left format before after More (Tick moment) count n m records on few is r = let more = r.reads.few few in omega (arith, is, r.reads.count, more, few)
+pub fewer_left : (format : Format) (before after : Option (List ℕ)) (last end : BatchEnd)
+    (count n m : ℕ) (records : List Record) → goes_on last ≡ true → n ≤ 4294967295
+    → count ≡ n + ticks_in last → ReadsAhead format last before after n m records end
+    → left_of end m < left_of last count
+fewer_left format before after End end count n m records on few is r = absurd
+    (let bad : false ≡ true = on in cc)
+fewer_left format before after (Fault fault) end count n m records on few is r = absurd
+    (let bad : false ≡ true = on in cc)
+fewer_left format before after More More count n m records on few is r = let more = r.reads.few
+    few in omega (arith, is, r.reads.count, r.reads.ends.0, more, few)
+fewer_left format before after More (Tick moment) count n m records on few is r = let more =
+    r.reads.few few in omega (arith, is, r.reads.count, more, few)
 fewer_left format before after More End count n m records on few is r = omega (arith, is, few)
-fewer_left format before after More (Fault fault) count n m records on few is r = omega (arith, is, few)
-fewer_left format before after (Tick moment) More count n m records on few is r = let more = r.reads.few few in omega (arith, is, r.reads.count, r.reads.ends.0, more, few)
-fewer_left format before after (Tick moment) (Tick next) count n m records on few is r = absurd (let bad : Tick next ≡ More = r.next refl in cc)
-fewer_left format before after (Tick moment) End count n m records on few is r = absurd (let bad : End ≡ More = r.next refl in cc)
-fewer_left format before after (Tick moment) (Fault fault) count n m records on few is r = absurd (let bad : Fault fault ≡ More = r.next refl in cc)
+fewer_left format before after More (Fault fault) count n m records on few is r =
+    omega (arith, is, few)
+fewer_left format before after (Tick moment) More count n m records on few is r = let more =
+    r.reads.few few in omega (arith, is, r.reads.count, r.reads.ends.0, more, few)
+fewer_left format before after (Tick moment) (Tick next) count n m records on few is r = absurd
+    (let bad : Tick next ≡ More = r.next refl in cc)
+fewer_left format before after (Tick moment) End count n m records on few is r = absurd
+    (let bad : End ≡ More = r.next refl in cc)
+fewer_left format before after (Tick moment) (Fault fault) count n m records on few is r = absurd
+    (let bad : Fault fault ≡ More = r.next refl in cc)

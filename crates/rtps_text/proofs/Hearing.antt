@@ -1,13 +1,10 @@
 -- A run receives datagrams and processes them, batch after batch.
-use Rattle.std.proofs.Common.{◌≡◌, ℕ, ◌+◌, ◌≤◌, List, [], ◌∷◌, ◌++◌, Bool, ◌⊎◌, Option, Result, Ok, Err, arith, refl, subst, sym, ap, ◌∙◌, inl, inr, length, take, drop, add-zero, append-nil, append_assoc, take-append-drop}
+use Rattle.std.proofs.Common.{Bor, ◌≡◌, ℕ, ◌+◌, ◌≤◌, List, [], ◌∷◌, ◌++◌, Bool, ◌⊎◌, Option, Result, Ok, Err, arith, refl, subst, sym, ap, ◌∙◌, inl, inr, length, take, drop, add-zero, append-nil, append_assoc, take-append-drop}
 use Rattle.std.specs.Prelude.{IsErrAnd}
 use Rattle.std.specs.Io.KnownBytes.{Appends}
 use Rattle.std.specs.List.{flat_map}
 use Rattle.std.proofs.KnownBytes.{Appends-kept, Appends-nil, Appends-trans}
 use Rattle.std.proofs.lemmas.Grind.{flat_map-append}
-use Rattle.std.specs.declared.alloc.AllocError.{AllocError}
-use Rattle.std.specs.declared.alloc.Global.{Global}
-use Rattle.std.specs.declared.vec.Vec.{Vec}
 use Rattle.rtps_types.specs.declared.locator.Locator.{Locator}
 use Rattle.rtps_records.specs.RecordFile.{Record}
 use Rattle.rtps_records.specs.Runs.{Closes, ClosesNot, Moves, PutsFront}
@@ -19,29 +16,26 @@ use Rattle.rtps_records.specs.declared.receive_end.ReceiveEnd.{ReceiveEnd}
 use Rattle.rtps_records.specs.declared.receive_end.ReceiveEnd.TheVariants.{Drained, Fault, More}
 use Rattle.rtps_records.proofs.Received.{Grows-nil, Grows-trans}
 use Rattle.dds_topic.specs.Decoding.{Decoding}
-use Rattle.dds_participant.specs.BatchOutput.{IsGiven}
+use Rattle.rtps_run.specs.BatchOutput.{AreAnswersInOrder, IsGiven}
 use Rattle.dds_participant.specs.Ports.{NoneAttached}
-use Rattle.dds_participant.specs.declared.batch_output.BatchOutput.{BatchOutput}
+use Rattle.rtps_run.specs.declared.batch_output.BatchOutput.{BatchOutput}
 use Rattle.rtps_discovery.specs.declared.config.Config.{Config}
 use Rattle.rtps_text.specs.Inputs.{run}
 use Rattle.rtps_run.specs.Standing.{EngineView}
 use Rattle.rtps_text.specs.Inputs.{StandsAt, run_by}
-use Rattle.rtps_text.specs.Batched.{IsDue, IsSameRun, TakesRecords}
+use Rattle.rtps_text.specs.Batched.{IsSameRun, TakesRecords, batch_lines}
 use Rattle.rtps_text.specs.Listened.{IsDone, IsOver, Leaves, Limits, Listened, LiveRun, SentAt, WaitsInTurn, WroteFrontOf, limits_of, live_run}
 use Rattle.rtps_text.specs.Live.{BreaksOff, Untaken, Unwritten, EndsTurns, IsLast, IsLive, Listens, Processes, Stopped, failures_of, live_by, sends_by}
 use Rattle.rtps_text.specs.declared.live.Live.{Live}
 use Rattle.rtps_text.specs.Replayed.{HasSaid, put_line, text_by}
-use Rattle.rtps_text.specs.Sending.{AreAnswersByPlace, Sends, given_sends, goes_out, sendings, sends_of}
-use Rattle.rtps_text.specs.Slices.{all_lines}
+use Rattle.rtps_text.specs.Sending.{Sends, given_sends, goes_out, sendings, sends_of}
 use Rattle.rtps_text.specs.declared.live_fault.LiveFault.{LiveFault}
 use Rattle.rtps_text.specs.declared.live_fault.LiveFault.TheVariants.{Run, Socket}
-use Rattle.rtps_text.specs.declared.printer.Printer.{Printer}
 use Rattle.rtps_text.specs.declared.running.RunLines.{RunLines}
-use Rattle.rtps_text.specs.declared.texts.Texts.{Texts}
-use Rattle.rtps_text.proofs.Batches.{all_written, by_place, said_more}
+use Rattle.rtps_text.proofs.Batches.{said_more}
 use Rattle.rtps_text.proofs.Calls.{Comes, comes_answered, comes_both, comes_failed, comes_sendings, in_turn_more, in_turn_wait}
 use Rattle.rtps_text.proofs.Run.{put_on}
-use Rattle.rtps_text.proofs.Sent.{given_by_place, given_send}
+use Rattle.rtps_text.proofs.Sent.{given_in_order, given_send}
 
 -- ---- runs with the same catalog and configuration
 
@@ -121,7 +115,8 @@ silent : {C M : Type 0} (text : C → M → List ℕ) (decoding : C → Decoding
     → (l : Listens text decoding first then origin old most left waits moment end engine)
     → IsLast next (l.calls ++ calls) → WaitsInTurn (sends_by decoding engine) (l.calls ++ calls)
     → Listens text decoding first now origin old most left (waits + more) moment next engine
-silent text decoding first then now origin old most left waits more moment failed end next engine calls c grows fails l last in_turn =
+silent text decoding first then now origin old most left waits more moment failed end next engine
+    calls c grows fails l last in_turn =
     let all = comes_both 0 moment moment _ _ _ _ _ _ _ _ _ _ _ _
     (tally text decoding first then origin old most left waits moment end engine l) c in
     record {
@@ -144,7 +139,8 @@ silent text decoding first then now origin old most left waits more moment faile
 -- ---- what is heard next
 
 -- whatever is answered to these calls, each wait is in turn
-abbrev pub KeepsTurn : (List Record → List (Locator × List ℕ)) → List Traffic → List Traffic → Type 0
+abbrev pub KeepsTurn : (List Record → List (Locator × List ℕ)) → List Traffic → List Traffic
+    → Type 0
 KeepsTurn sends calls more =
     (answers : List (Locator × List ℕ)) → WaitsInTurn sends (calls ++ (more ++ sendings answers))
 
@@ -156,7 +152,8 @@ pub keeps_turn : {C M : Type 0} (text : C → M → List ℕ) (decoding : C → 
     → Comes moment next_moment more batch count [] 0 failed
     → (l : Listens text decoding first now old new most left waits moment end engine)
     → KeepsTurn (sends_by decoding engine) l.calls more
-keeps_turn text decoding first now old new most left waits moment next_moment count failed end engine batch more comes l answers =
+keeps_turn text decoding first now old new most left waits moment next_moment count failed end
+    engine batch more comes l answers =
     let all = comes_answered moment next_moment more batch count 0 failed answers comes in
     in_turn_more (sends_by decoding engine) l.calls (more ++ sendings answers) l.in_turn all.waits
 
@@ -187,35 +184,27 @@ pub listens_failed : {C M : Type 0} (text : C → M → List ℕ) (decoding : C 
     → Grows then now (Failed ∷ [])
     → Listens text decoding first then origin old most left waits moment end engine
     → Listens text decoding first now origin old most left waits moment Fault engine
-listens_failed text decoding first then now origin old most left waits moment end engine none grows l =
+listens_failed text decoding first then now origin old most left waits moment end engine none grows
+    l =
     subst (λ w. Listens text decoding first now origin old most left w moment Fault engine)
     (add-zero waits)
     (silent text decoding first then now origin old most left waits 0 moment 1 end Fault engine
     (Failed ∷ []) (comes_failed moment) grows (omega (arith, none)) l tt
     (in_turn_more (sends_by decoding engine) l.calls (Failed ∷ []) l.in_turn refl))
 
--- if no text is left, all that is to be printed for a batch is its lines
-pub batch_due : {C V M : Type 0} (text : C → M → List ℕ) (f : V → M) (decoding : C → Decoding M) (records batch : List Record) (before next : EngineView C) (given : BatchOutput V) (texts : List (Result (Vec ℕ Global) AllocError)) (k : C) (readers : ℕ)
-    → texts ≡ [] → StandsAt decoding records before → TakesRecords f decoding batch before next given → IsDue (text k) f texts given readers (all_lines (text k) f given readers)
-batch_due text f decoding records batch before next given texts k readers none stands takes = record {
-  by_place = by_place f (run_by decoding before records) (run_by decoding before (records ++ batch)) given (takes.gives records stands);
-  made = [];
-  are = all_written texts none;
-  is = refl;
-}
-
 -- what was sent before a batch, and then what the batch sends, is what the run with the batch sends
 batch_sends : {C V M : Type 0} (f : V → M) (decoding : C → Decoding M)
     (records batch : List Record) (before : EngineView C) (given : BatchOutput V)
     (mid now : Option (List Traffic))
     → IsGiven f (run_by decoding before records) (run_by decoding before (records ++ batch)) given
-    → (s : Sends (AreAnswersByPlace given) mid now (given_sends given))
+    → (s : Sends (AreAnswersInOrder given) mid now (given_sends given))
     → sends_of (run_by decoding before records).put ++ s.sent
     ≡ sends_of (run_by decoding before (records ++ batch)).put
 batch_sends f decoding records batch before given mid now g s =
     let was = run_by decoding before records in
     let is = run_by decoding before (records ++ batch) in
-    ap (λ l. sends_of was.put ++ l) (s.are (given_by_place f was is given g) ∙ sym (given_send f given))
+    ap (λ l. sends_of was.put ++ l)
+    (s.are (given_in_order f was is given g) ∙ sym (given_send f given))
     ∙ sym (ap sends_of g.put ∙ flat_map-append goes_out was.put _)
 
 -- One more batch was heard by these calls and processed, its answers were sent, and its lines were
@@ -224,21 +213,24 @@ pub listens_more : {C V M : Type 0} (text : C → M → List ℕ) (f : V → M) 
     (first then mid now : Option (List Traffic)) (origin old new : Option (List ℕ))
     (most left less waits turned moment next_moment count failed : ℕ) (before next : EngineView C)
     (given : BatchOutput V) (batch : List Record) (more : List Traffic) (from end : ReceiveEnd)
-    (k : C) (readers : ℕ)
+    (k : C)
     → (next.catalog ≡ before.catalog) × (next.config ≡ before.config)
     → TakesRecords f decoding batch before next given → next.catalog ≡ k
-    → length next.config.readers.items ≡ readers
     → Comes moment next_moment more batch count [] turned failed → failures_of from ≡ 0
     → failed ≡ failures_of end
     → Grows then mid more
-    → ((calls : List Traffic) (sends : List (Locator × List ℕ)) → IsLast end (calls ++ (more ++ sendings sends)))
-    → Sends (AreAnswersByPlace given) mid now (given_sends given)
+    → ((calls : List Traffic) (sends : List (Locator × List ℕ))
+    → IsLast end (calls ++ (more ++ sendings sends)))
+    → Sends (AreAnswersInOrder given) mid now (given_sends given)
     → left ≡ count + less
-    → ((earlier : List Record) → StandsAt decoding earlier before → Appends old new (all_lines (text k) f given readers))
+    → ((earlier : List Record) → StandsAt decoding earlier before
+    → Appends old new (batch_lines (text k) f given))
     → (l : Listens text decoding first then origin old most left waits moment from before)
     → KeepsTurn (sends_by decoding before) l.calls more
     → Listens text decoding first now origin new most less (waits + turned) next_moment end next
-listens_more text f decoding first then mid now origin old new most left less waits turned moment next_moment count failed before next given batch more from end k readers same takes own counted comes none fails grows last s fewer wrote l in_turn =
+listens_more text f decoding first then mid now origin old new most left less waits turned moment
+    next_moment count failed before next given batch more from end k same takes own comes none fails
+    grows last s fewer wrote l in_turn =
     let sent_too = comes_answered moment next_moment more batch count turned failed s.sent comes in
     let all = comes_both 0 moment next_moment _ _ _ _ _ _ _ _ _ _ _ _
     (tally text decoding first then origin old most left waits moment from before l) sent_too in
@@ -256,19 +248,25 @@ listens_more text f decoding first then mid now origin old new most left less wa
       waited = all.waits;
       failed = omega (arith, all.failures, fails, none);
       last = last l.calls s.sent;
-      in_turn = subst (λ (sends : List Record → List (Locator × List ℕ)). WaitsInTurn sends (l.calls ++ calls)) ours
+      in_turn = subst
+          (λ (sends : List Record → List (Locator × List ℕ)). WaitsInTurn sends (l.calls ++ calls))
+          ours
           (in_turn s.sent);
       sent = all.sent
-          ∙ batch_sends f decoding l.records batch before given mid now (takes.gives l.records l.says.stands) s
+          ∙ batch_sends f decoding l.records batch before given mid now
+          (takes.gives l.records l.says.stands) s
           ∙ ap (λ (sends : List Record → List (Locator × List ℕ)). sends (l.records ++ batch)) ours;
-      written = l.written ++ all_lines (text k) f given readers;
+      written = l.written ++ batch_lines (text k) f given;
       wrote = Appends-trans _ _ _ _ _ l.wrote (wrote l.records l.says.stands);
-      says = said_more text f decoding l.records batch l.written before next given k readers same takes own counted l.says;
+      says = said_more text f decoding l.records batch l.written before next given k same takes own
+          l.says;
     }
 
 -- octets were written in two parts
-pub both_parts : (old mid new : Option (List ℕ)) (octets rest : List ℕ) → Moves old mid octets rest → Appends mid new rest → Appends old new octets
-both_parts old mid new octets rest m more = subst (Appends old new) (sym m.2) (Appends-trans _ _ _ _ _ m.1 more)
+pub both_parts : (old mid new : Option (List ℕ)) (octets rest : List ℕ) → Moves old mid octets rest
+    → Appends mid new rest → Appends old new octets
+both_parts old mid new octets rest m more = subst (Appends old new) (sym m.2)
+    (Appends-trans _ _ _ _ _ m.1 more)
 
 -- ---- a run that stops
 
@@ -299,7 +297,8 @@ pub stops_untaken : {C M : Type 0} (text : C → M → List ℕ) (decoding : C �
     → KeepsTurn (sends_by decoding engine) l.calls more
     → Stopped (live_by text decoding engine summary) most (waits + turned) NoMemory first now origin
     old
-stops_untaken text decoding first then now origin old most left waits turned moment next_moment count failed engine summary batch more from c grows few l in_turn =
+stops_untaken text decoding first then now origin old most left waits turned moment next_moment
+    count failed engine summary batch more from c grows few l in_turn =
     let made = live_by text decoding engine summary in
     let calls = l.calls ++ more in
     let all = comes_both 0 moment next_moment l.calls more _ _ _ _ _ _ _ _ _ _
@@ -332,29 +331,34 @@ pub stops_writing : {C V M : Type 0} (text : C → M → List ℕ) (f : V → M)
     (first then mid now : Option (List Traffic)) (origin old new : Option (List ℕ))
     (most left waits turned moment next_moment count failed : ℕ) (before next : EngineView C)
     (summary : Bool) (given : BatchOutput V) (batch : List Record) (more : List Traffic)
-    (from : ReceiveEnd) (k : C) (readers : ℕ) (fault : RunFault)
+    (from : ReceiveEnd) (k : C) (fault : RunFault)
     → (next.catalog ≡ before.catalog) × (next.config ≡ before.config)
     → TakesRecords f decoding batch before next given → next.catalog ≡ k
-    → length next.config.readers.items ≡ readers
     → Comes moment next_moment more batch count [] turned failed → Grows then mid more
-    → Sends (AreAnswersByPlace given) mid now (given_sends given) → count ≤ left
-    → ((earlier : List Record) → StandsAt decoding earlier before → PutsFront old new (all_lines (text k) f given readers))
+    → Sends (AreAnswersInOrder given) mid now (given_sends given) → count ≤ left
+    → ((earlier : List Record) → StandsAt decoding earlier before
+    → PutsFront old new (batch_lines (text k) f given))
     → (fault ≡ CannotWrite) ⊎ (fault ≡ NoMemory)
     → (l : Listens text decoding first then origin old most left waits moment from before)
     → KeepsTurn (sends_by decoding before) l.calls more
-    → Stopped (live_by text decoding before summary) most (waits + turned) fault first now origin new
-stops_writing text f decoding first then mid now origin old new most left waits turned moment next_moment count failed before next summary given batch more from k readers fault same takes own counted comes grows s few puts cause l in_turn =
+    → Stopped (live_by text decoding before summary) most (waits + turned) fault first now
+    origin new
+stops_writing text f decoding first then mid now origin old new most left waits turned moment
+    next_moment count failed before next summary given batch more from k fault same takes own comes
+    grows s few puts cause l in_turn =
     let made = live_by text decoding before summary in
-    let lines = all_lines (text k) f given readers in
+    let lines = batch_lines (text k) f given in
     let calls = l.calls ++ (more ++ sendings s.sent) in
     let wrote = puts l.records l.says.stands in
     let sent_too = comes_answered moment next_moment more batch count turned failed s.sent comes in
     let all = comes_both 0 moment next_moment _ _ _ _ _ _ _ _ _ _ _ _
     (tally text decoding first then origin old most left waits moment from before l) sent_too in
     let sent : sent_in calls ≡ made.sends (heard_in calls) = all.sent
-    ∙ batch_sends f decoding l.records batch before given mid now (takes.gives l.records l.says.stands) s
+    ∙ batch_sends f decoding l.records batch before given mid now
+    (takes.gives l.records l.says.stands) s
     ∙ sym (ap made.sends all.heard) in
-    let says = said_more text f decoding l.records batch l.written before next given k readers same takes own counted l.says in
+    let says = said_more text f decoding l.records batch l.written before next given k same takes
+    own l.says in
     let whole : made.lines (heard_in calls) ≡ l.written ++ lines = ap made.lines all.heard
     ∙ ap (λ (m : LiveRun). m.lines (l.records ++ batch))
     (same_live text decoding before next summary summary (sym same.0) (sym same.1) refl)
@@ -389,7 +393,9 @@ pub breaks_off : {C V U M : Type 0} (text : C → M → List ℕ) (f : V → M) 
     → KeepsTurn (sends_by decoding before.run.participant.engine) l.calls more
     → Stopped (live_by text decoding before.run.participant.engine before.run.summary) most
     (waits + turned) fault first now origin new
-breaks_off text f decoding first then mid now origin old new most left waits turned moment next_moment count failed before after batch more from fault live comes grows few (Untaken none still kept) l in_turn =
+breaks_off text f decoding first then mid now origin old new most left waits turned moment
+    next_moment count failed before after batch more from fault live comes grows few
+    (Untaken none still kept) l in_turn =
     let made = live_by text decoding before.run.participant.engine before.run.summary in
     subst (λ x. Stopped made most (waits + turned) x first now origin new) (sym none)
     (subst (λ x. Stopped made most (waits + turned) NoMemory first x origin new) (sym still)
@@ -397,24 +403,21 @@ breaks_off text f decoding first then mid now origin old new most left waits tur
     (stops_untaken text decoding first then mid origin old most left waits turned moment next_moment
     count failed before.run.participant.engine before.run.summary batch more from comes grows few l
     in_turn)))
-breaks_off text f decoding first then mid now origin old new most left waits turned moment next_moment count failed before after batch more from fault live comes grows few (Unwritten cause same takes sends puts) l in_turn =
+breaks_off text f decoding first then mid now origin old new most left waits turned moment
+    next_moment count failed before after batch more from fault live comes grows few
+    (Unwritten cause same takes sends puts) l in_turn =
     stops_writing text f decoding first then mid now origin old new most left waits turned moment
     next_moment count failed before.run.participant.engine after.run.participant.engine
-    before.run.summary after.run.given batch more from before.printer.catalog.now
-    before.printer.readers fault
-    (same.catalog, same.config) takes (same.catalog ∙ sym live.own)
-    (ap (λ (config : Config). length config.readers.items) same.config ∙ sym live.readers) comes
+    before.run.summary after.run.given batch more from before.catalog.now fault
+    (same.catalog, same.config) takes (same.catalog ∙ sym live.own) comes
     grows sends few puts cause l in_turn
 
 -- a live run with the same parts is one too
-pub live_as : {C V U : Type 0} (a b : Live C V U) → IsLive a → b.run ≡ a.run → b.printer ≡ a.printer
-    → b.texts ≡ a.texts → IsLive b
-live_as {C} {V} {U} a b live runs printers texts = record {
-  own = ap (λ (p : Printer C V U). p.catalog.now) printers ∙ live.own
+pub live_as : {C V U : Type 0} (a b : Live C V U) → IsLive a → b.run ≡ a.run → b.catalog ≡ a.catalog
+    → IsLive b
+live_as {C} {V} {U} a b live runs catalogs = record {
+  own = ap (λ (k : Bor C). k.now) catalogs ∙ live.own
       ∙ ap (λ (r : RunLines C V U). r.participant.engine.catalog) (sym runs);
-  readers = ap (λ (p : Printer C V U). p.readers) printers ∙ live.readers
-      ∙ ap (λ (r : RunLines C V U). length r.participant.engine.config.readers.items) (sym runs);
-  none = ap (λ (t : Texts). t.made.items) texts ∙ live.none;
   alone = subst (λ (r : RunLines C V U). NoneAttached r.participant.ports) (sym runs) live.alone;
 }
 
@@ -425,19 +428,23 @@ pub goes_on : {C V U M : Type 0} (text : C → M → List ℕ) (f : V → M) (de
     (batch : List Record) (more : List Traffic) (from end : ReceiveEnd) → IsLive before
     → IsSameRun before.run after.run → Comes moment next_moment more batch count [] turned failed
     → failures_of from ≡ 0 → failed ≡ failures_of end → Grows then mid more
-    → ((calls : List Traffic) (sends : List (Locator × List ℕ)) → IsLast end (calls ++ (more ++ sendings sends)))
+    → ((calls : List Traffic) (sends : List (Locator × List ℕ))
+    → IsLast end (calls ++ (more ++ sendings sends)))
     → left ≡ count + less → Processes text f decoding batch before after mid now old new
     → (l : Listens text decoding first then origin old most left waits moment from
     before.run.participant.engine)
     → KeepsTurn (sends_by decoding before.run.participant.engine) l.calls more
     → Listens text decoding first now origin new most less (waits + turned) next_moment end
     after.run.participant.engine
-goes_on text f decoding first then mid now origin old new most left less waits turned moment next_moment count failed before after batch more from end live same comes none fails grows last fewer done l in_turn =
-    listens_more text f decoding first then mid now origin old new most left less waits turned moment
+goes_on text f decoding first then mid now origin old new most left less waits turned moment
+    next_moment count failed before after batch more from end live same comes none fails grows last
+    fewer done l in_turn =
+    listens_more text f decoding first then mid now origin old new most left less waits turned
+    moment
     next_moment count failed before.run.participant.engine after.run.participant.engine
-    after.run.given batch more from end before.printer.catalog.now before.printer.readers
+    after.run.given batch more from end before.catalog.now
     (same.catalog, same.config) done.takes (same.catalog ∙ sym live.own)
-    (ap (λ (config : Config). length config.readers.items) same.config ∙ sym live.readers) comes
+    comes
     none fails grows last done.sends fewer done.wrote l in_turn
 
 -- what is stated of a run that stopped holds also for equal results and a greater limit of waits
@@ -471,7 +478,8 @@ pub listens_done : {C M : Type 0} (text : C → M → List ℕ) (decoding : C �
     → (l : Listens text decoding first now origin mid most left waits moment end engine)
     → IsDone made l.calls origin new
 unfolding Closes
-listens_done text decoding made first now origin mid new most left waits moment end engine summary kept same none c l =
+listens_done text decoding made first now origin mid new most left waits moment end engine summary
+    kept same none c l =
     let own = live_by text decoding engine summary in
     let says = subst (λ w. HasSaid text decoding l.records w engine)
     (sym (ap (λ k. l.written ++ k) none ∙ append-nil l.written)) l.says in
@@ -485,12 +493,14 @@ listens_done text decoding made first now origin mid new most left waits moment 
 
 -- then the run is complete, or the network failed
 ended_by : {C M : Type 0} (text : C → M → List ℕ) (decoding : C → Decoding M)
-    (first now : Option (List Traffic)) (old new : Option (List ℕ)) (most left waits turns moment : ℕ)
+    (first now : Option (List Traffic)) (old new : Option (List ℕ))
+    (most left waits turns moment : ℕ)
     (engine : EngineView C) (end : ReceiveEnd)
     → (l : Listens text decoding first now old new most left waits moment end engine)
     → EndsTurns end left waits turns
     → IsOver (limits_of most turns) l.calls ⊎ (failures_in l.calls ≡ 1)
-ended_by text decoding first now old new most left waits turns moment engine Fault l ends = inr l.failed
+ended_by text decoding first now old new most left waits turns moment engine Fault l ends = inr
+    l.failed
 ended_by text decoding first now old new most left waits turns moment engine More l ends =
     let count = l.count in
     inl (inl (omega (arith, count, ends)))
@@ -502,7 +512,8 @@ ended_by text decoding first now old new most left waits turns moment engine Dra
     ]
 
 -- if no datagram is left to receive, the run may end after any batch
-pub ends_full : (end : ReceiveEnd) (left waits turns : ℕ) → left ≡ 0 → EndsTurns end left waits turns
+pub ends_full : (end : ReceiveEnd) (left waits turns : ℕ) → left ≡ 0
+    → EndsTurns end left waits turns
 ends_full More left waits turns none = none
 ends_full Drained left waits turns none = inl none
 ends_full Fault left waits turns none = tt
@@ -543,10 +554,12 @@ pub listened_ok : {C M : Type 0} (text : C → M → List ℕ) (decoding : C →
     → IsDone made l.calls origin new
     → Listened made (limits_of most turns) (Ok u) first now origin new
 unfolding Leaves
-listened_ok text decoding made first now origin mid new most left waits turns moment engine summary end u same none few ends l done =
+listened_ok text decoding made first now origin mid new most left waits turns moment engine summary
+    end u same none few ends l done =
     let count = l.count in
     let over : IsOver (limits_of most turns) l.calls =
-    elim (ended_by text decoding first now origin mid most left waits turns moment engine end l ends) [
+    elim (ended_by text decoding first now origin mid most left waits turns moment engine end l
+    ends) [
       | inl over ↦ over
       | inr failed ↦ absurd (omega (arith, failed, l.failed, none))
     ] in
@@ -568,7 +581,8 @@ pub listened_socket : {C M : Type 0} (text : C → M → List ℕ) (decoding : C
     → IsDone made l.calls origin new
     → Listened made (limits_of most turns) (Err Socket) first now origin new
 unfolding Leaves
-listened_socket text decoding made first now origin mid new most left waits turns moment engine summary end same one few l done =
+listened_socket text decoding made first now origin mid new most left waits turns moment engine
+    summary end same one few l done =
     let count = l.count in
     record {
       calls = l.calls;
@@ -595,15 +609,19 @@ listened_stop made most turns fault before after old new s = record {
 }
 
 -- if the last text was not written completely, a write failed or memory ran out
-pub unclosed_cause : (said : List Record → List ℕ → Type 0) (text : List Record → List ℕ) (fault : RunFault) (old new : Option (List ℕ)) (kept : List ℕ) → ClosesNot fault said text old new kept
+pub unclosed_cause : (said : List Record → List ℕ → Type 0) (text : List Record → List ℕ)
+    (fault : RunFault) (old new : Option (List ℕ)) (kept : List ℕ)
+    → ClosesNot fault said text old new kept
     → (fault ≡ CannotWrite) ⊎ (fault ≡ NoMemory)
 unfolding ClosesNot
-unclosed_cause said text fault old new kept c = elim c [ inl nothing ↦ inr nothing.0 | inr some ↦ inl some.0 ]
+unclosed_cause said text fault old new kept c = elim c
+    [ inl nothing ↦ inr nothing.0 | inr some ↦ inl some.0 ]
 
 -- what was written if the last text was not written completely
 unclosed_front : {C M : Type 0} (text : C → M → List ℕ) (decoding : C → Decoding M)
     (limits : Limits) (first now : Option (List Traffic)) (origin mid new : Option (List ℕ))
-    (most left waits moment : ℕ) (end : ReceiveEnd) (engine : EngineView C) (summary : Bool) (kept : List ℕ)
+    (most left waits moment : ℕ) (end : ReceiveEnd) (engine : EngineView C) (summary : Bool)
+    (kept : List ℕ)
     (fault : RunFault) → kept ≡ []
     → ClosesNot fault (λ records said. HasSaid text decoding records said engine)
     (text_by text decoding engine summary) mid new kept
@@ -611,30 +629,31 @@ unclosed_front : {C M : Type 0} (text : C → M → List ℕ) (decoding : C → 
     → IsOver limits l.calls ⊎ (failures_in l.calls ≡ 1)
     → WroteFrontOf (live_by text decoding engine summary) limits l.calls origin new
 unfolding ClosesNot
-unclosed_front text decoding limits first now origin mid new most left waits moment end engine summary kept fault none c l over = elim c [
-  | inl nothing ↦
-      let made = live_by text decoding engine summary in
-      let all : made.lines (heard_in l.calls) ≡ l.written ++ [] =
-      ap made.lines l.heard ∙ sym l.says.lines ∙ sym (append-nil l.written) in
-      (l.written, Appends-kept _ _ _ _ l.wrote nothing.1, inl ([], all))
-  | inr some ↦
-      let made = live_by text decoding engine summary in
-      let says = subst (λ w. HasSaid text decoding l.records w engine)
-      (sym (ap (λ k. l.written ++ k) none ∙ append-nil l.written)) l.says in
-      let put = some.1.0 in
-      let begun = some.1.1 in
-      let all : made.text (heard_in l.calls) ≡ l.written ++ put =
-      ap made.text l.heard ∙ some.1.2 l.records l.written says in
-      let front : IsFront (l.written ++ take begun.0 put) (made.text (heard_in l.calls)) = (
-        drop begun.0 put,
-        all ∙ ap (λ l'. l.written ++ l') (sym (take-append-drop begun.0 put))
-            ∙ sym (append_assoc l.written (take begun.0 put) (drop begun.0 put)),
-      ) in (
-        l.written ++ take begun.0 put,
-        Appends-trans _ _ _ _ _ l.wrote begun.1,
-        inr (over, front),
-      )
-]
+unclosed_front text decoding limits first now origin mid new most left waits moment end engine
+    summary kept fault none c l over = elim c [
+      | inl nothing ↦
+          let made = live_by text decoding engine summary in
+          let all : made.lines (heard_in l.calls) ≡ l.written ++ [] =
+          ap made.lines l.heard ∙ sym l.says.lines ∙ sym (append-nil l.written) in
+          (l.written, Appends-kept _ _ _ _ l.wrote nothing.1, inl ([], all))
+      | inr some ↦
+          let made = live_by text decoding engine summary in
+          let says = subst (λ w. HasSaid text decoding l.records w engine)
+          (sym (ap (λ k. l.written ++ k) none ∙ append-nil l.written)) l.says in
+          let put = some.1.0 in
+          let begun = some.1.1 in
+          let all : made.text (heard_in l.calls) ≡ l.written ++ put =
+          ap made.text l.heard ∙ some.1.2 l.records l.written says in
+          let front : IsFront (l.written ++ take begun.0 put) (made.text (heard_in l.calls)) = (
+            drop begun.0 put,
+            all ∙ ap (λ l'. l.written ++ l') (sym (take-append-drop begun.0 put))
+                ∙ sym (append_assoc l.written (take begun.0 put) (drop begun.0 put)),
+          ) in (
+            l.written ++ take begun.0 put,
+            Appends-trans _ _ _ _ _ l.wrote begun.1,
+            inr (over, front),
+          )
+    ]
 
 -- the outcome of a run whose last text was not written completely
 pub listened_unclosed : {C M : Type 0} (text : C → M → List ℕ) (decoding : C → Decoding M)
@@ -647,11 +666,13 @@ pub listened_unclosed : {C M : Type 0} (text : C → M → List ℕ) (decoding :
     → Listens text decoding first now origin mid most left waits moment end engine
     → Listened made (limits_of most turns) (Err (Run fault)) first now origin new
 unfolding Leaves
-listened_unclosed text decoding made first now origin mid new most left waits turns moment engine summary end kept fault same none c few ends l =
+listened_unclosed text decoding made first now origin mid new most left waits turns moment engine
+    summary end kept fault same none c few ends l =
     let own = live_by text decoding engine summary in
     let limits = limits_of most turns in
     let count = l.count in
-    let over = ended_by text decoding first now origin mid most left waits turns moment engine end l ends in
+    let over = ended_by text decoding first now origin mid most left waits turns moment engine end l
+    ends in
     let sent = answered text decoding first now origin mid most left waits moment end engine l in
     let listened : Listened own limits (Err (Run fault)) first now origin new = record {
       calls = l.calls;
@@ -661,14 +682,16 @@ listened_unclosed text decoding made first now origin mid new most left waits tu
       in_turn = l.in_turn;
       leaves = (
         sent_whole fault own l.calls (unclosed_cause _ _ fault _ _ kept c) sent,
-        unclosed_front text decoding limits first now origin mid new most left waits moment end engine
+        unclosed_front text decoding limits first now origin mid new most left waits moment end
+            engine
             summary kept fault none c l over,
       );
     } in
     subst (λ (m : LiveRun). Listened m limits (Err (Run fault)) first now origin new) same listened
 
 -- a run that stays the same in each of two steps stays the same in both
-pub same_run : {C V U : Type 0} (a b c : RunLines C V U) → IsSameRun a b → IsSameRun b c → IsSameRun a c
+pub same_run : {C V U : Type 0} (a b c : RunLines C V U) → IsSameRun a b → IsSameRun b c
+    → IsSameRun a c
 same_run a b c x y = record {
   catalog = y.catalog ∙ x.catalog;
   config = y.config ∙ x.config;
@@ -678,12 +701,15 @@ same_run a b c x y = record {
 }
 
 -- what holds for a fault of the run holds for a result that is this fault
-pub at_run : (r : Result (Unit {0}) LiveFault) (fault : RunFault) (P : Result (Unit {0}) LiveFault → Type 0) → IsErrAnd r (λ e. e ≡ Run fault) → P (Err (Run fault)) → P r
+pub at_run : (r : Result (Unit {0}) LiveFault) (fault : RunFault)
+    (P : Result (Unit {0}) LiveFault → Type 0) → IsErrAnd r (λ e. e ≡ Run fault)
+    → P (Err (Run fault)) → P r
 at_run (Ok x) fault P is p = absurd is
 at_run (Err e) fault P is p = subst (λ e. P (Err e)) (sym is) p
 
 -- the outcome of a run for which there was no memory at the start: nothing was received
-pub unbegun : (made : LiveRun) (most turns : ℕ) (now : Option (List Traffic)) (old : Option (List ℕ))
+pub unbegun : (made : LiveRun) (most turns : ℕ) (now : Option (List Traffic))
+    (old : Option (List ℕ))
     → Listened made (limits_of most turns) (Err (Run NoMemory)) now now old old
 unbegun made most turns now old = listened_stop made most turns NoMemory now now old old (record {
   calls = [];

@@ -1,16 +1,12 @@
 -- One batch of a run.
-use Rattle.std.specs.Prelude.{◌≡◌, ℕ, List, ◌++◌, Option, Result}
-use Rattle.std.specs.declared.alloc.AllocError.{AllocError}
-use Rattle.std.specs.declared.alloc.Global.{Global}
-use Rattle.std.specs.declared.vec.Vec.{Vec}
-use Rattle.rtps_records.specs.Runs.{Moves}
+use Rattle.std.specs.Prelude.{◌≡◌, ℕ, List, ◌++◌}
 use Rattle.dds_topic.specs.Decoding.{Decoding}
 use Rattle.rtps_run.specs.Standing.{EngineView}
 use Rattle.rtps_text.specs.Inputs.{StandsAt, run_by}
-use Rattle.dds_participant.specs.BatchOutput.{IsGiven}
+use Rattle.rtps_run.specs.BatchOutput.{IsGiven, IsInOrder, given_puts}
 use Rattle.dds_participant.specs.Ports.{NoneAttached}
-use Rattle.dds_participant.specs.declared.batch_output.BatchOutput.{BatchOutput}
-use Rattle.rtps_text.specs.Slices.{AreByPlace, AreTexts, all_lines}
+use Rattle.rtps_run.specs.declared.batch_output.BatchOutput.{BatchOutput}
+use Rattle.rtps_text.specs.Replayed.{put_lines}
 use Rattle.rtps_text.specs.declared.running.RunLines.{RunLines}
 use Rattle.rtps_records.specs.RecordFile.{Record}
 
@@ -31,17 +27,12 @@ pub record TakesRecords {C V M : Type 0} (f : V → M) (decoding : C → Decodin
   pub gives : (earlier : List Record) → StandsAt decoding earlier old
       → IsGiven f (run_by decoding old earlier) (run_by decoding old (earlier ++ records)) given
 
--- a part of these octets was written; the rest is what is kept back, followed by these texts
-abbrev pub MovesBefore : Option (List ℕ) → Option (List ℕ) → List ℕ → List ℕ
-    → List (Result (Vec ℕ Global) AllocError) → Type 0
-MovesBefore old new octets left texts =
-    (whole : List ℕ) × AreTexts texts whole × Moves old new octets (left ++ whole)
+-- the lines of the results of a batch, in the order of the run
+abbrev pub batch_lines : {V M : Type 0} → (M → List ℕ) → (V → M) → BatchOutput V → List ℕ
+batch_lines text f given = put_lines text (given_puts f given)
 
--- what is still to be printed: the texts that were made, and then the lines of a batch's output
-pub record IsDue {V M : Type 0} (text : M → List ℕ) (f : V → M)
-    (texts : List (Result (Vec ℕ Global) AllocError)) (given : BatchOutput V) (readers : ℕ)
-    (due : List ℕ) : Type 0 where
-  pub by_place : AreByPlace f given
-  pub made : List ℕ
-  pub are : AreTexts texts made
-  pub is : due ≡ made ++ all_lines text f given readers
+-- what is still to be printed: the text that was made, and then the lines of the results of a batch
+pub record IsDue {V M : Type 0} (text : M → List ℕ) (f : V → M) (made : List ℕ)
+    (given : BatchOutput V) (due : List ℕ) : Type 0 where
+  pub in_order : IsInOrder f given
+  pub is : due ≡ made ++ batch_lines text f given

@@ -8,6 +8,5 @@ pub mod Replayed
 pub mod Sending
 pub mod Setup
 pub mod Sink
-pub mod Slices
 pub mod Taken
 pub mod Inputs

@@ -11,22 +11,19 @@ use Rattle.rtps_records.specs.declared.fault.RunFault.TheVariants.{CannotWrite, 
 use Rattle.rtps_records.specs.declared.receive_end.ReceiveEnd.{ReceiveEnd}
 use Rattle.rtps_records.specs.declared.receive_end.ReceiveEnd.TheVariants.{Drained, Fault, More}
 use Rattle.dds_topic.specs.Decoding.{Decoding}
+use Rattle.rtps_run.specs.BatchOutput.{AreAnswersInOrder}
 use Rattle.rtps_run.specs.Standing.{EngineView}
 use Rattle.rtps_text.specs.Inputs.{StandsAt, run_by}
 use Rattle.dds_participant.specs.Ports.{NoneAttached}
 use Rattle.rtps_text.specs.Listened.{IsDrained, LiveRun, SentAt, WaitsInTurn, live_run}
 use Rattle.rtps_text.specs.Replayed.{HasSaid}
-use Rattle.rtps_text.specs.Batched.{IsSameRun, TakesRecords}
-use Rattle.rtps_text.specs.Sending.{AreAnswersByPlace, Sends, given_sends, sends_of}
-use Rattle.rtps_text.specs.Slices.{all_lines}
+use Rattle.rtps_text.specs.Batched.{IsSameRun, TakesRecords, batch_lines}
+use Rattle.rtps_text.specs.Sending.{Sends, given_sends, sends_of}
 use Rattle.rtps_text.specs.declared.live.Live.{Live}
 
--- a live run formats its values with its own catalog and prints the lines of all its readers; no
--- text is kept back, and no reader has an outlet
+-- a live run formats its values with its own catalog, and no reader has an outlet
 pub record IsLive {C V U : Type 0} (live : Live C V U) : Type 0 where
-  pub own : live.printer.catalog.now ≡ live.run.participant.engine.catalog
-  pub readers : live.printer.readers ≡ length live.run.participant.engine.config.readers.items
-  pub none : live.texts.made.items ≡ []
+  pub own : live.catalog.now ≡ live.run.participant.engine.catalog
   pub alone : NoneAttached live.run.participant.ports
 
 -- the results of the run of one thread, with the catalog and the configuration of an engine
@@ -79,13 +76,12 @@ pub record Processes {C V U M : Type 0} (text : C → M → List ℕ) (f : V →
     (then now : Option (List Traffic)) (old new : Option (List ℕ)) : Type 0 where
   pub takes : TakesRecords f decoding batch before.run.participant.engine
       after.run.participant.engine after.run.given
-  pub sends : Sends (AreAnswersByPlace after.run.given) then now (given_sends after.run.given)
+  pub sends : Sends (AreAnswersInOrder after.run.given) then now (given_sends after.run.given)
   pub wrote : (earlier : List Record) → StandsAt decoding earlier before.run.participant.engine
-      → Appends old new (all_lines (text before.printer.catalog.now) f after.run.given
-      before.printer.readers)
+      → Appends old new (batch_lines (text before.catalog.now) f after.run.given)
 
--- The run stopped at a fault. Its readers didn't process the records, and nothing was sent or
--- written; or they did, all answers were sent, and a prefix of the lines was written.
+-- The run stopped at a fault. Memory ran out before anything was sent or written; or the readers
+-- processed the records, all answers were sent, and a prefix of the lines was written.
 pub data BreaksOff {C V U M : Type 0} (text : C → M → List ℕ) (f : V → M)
     (decoding : C → Decoding M) (batch : List Record) (before after : Live C V U)
     (fault : RunFault) (then now : Option (List Traffic)) (old new : Option (List ℕ)) : Type 0 where
@@ -95,10 +91,9 @@ pub data BreaksOff {C V U M : Type 0} (text : C → M → List ℕ) (f : V → M
       → IsSameRun before.run after.run
       → TakesRecords f decoding batch before.run.participant.engine
       after.run.participant.engine after.run.given
-      → Sends (AreAnswersByPlace after.run.given) then now (given_sends after.run.given)
+      → Sends (AreAnswersInOrder after.run.given) then now (given_sends after.run.given)
       → ((earlier : List Record) → StandsAt decoding earlier before.run.participant.engine
-      → PutsFront old new (all_lines (text before.printer.catalog.now) f after.run.given
-      before.printer.readers))
+      → PutsFront old new (batch_lines (text before.catalog.now) f after.run.given))
       → BreaksOff text f decoding batch before after fault then now old new
 
 -- more was heard, up to a batch with this end; it was processed, its answers were sent, and its

@@ -25,7 +25,3 @@ steps_of datagrams readers =
 -- a worker runs 1,024 steps or more
 abbrev pub runners_of : ℕ → List Datagram → ℕ → ℕ
 runners_of workers datagrams readers = sharing workers (steps_of datagrams readers / 1024)
-
--- a worker formats 1,024 lines or more
-abbrev pub formatters_of : ℕ → ℕ → ℕ
-formatters_of workers lines = sharing workers (lines / 1024)

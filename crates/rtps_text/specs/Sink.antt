@@ -1,8 +1,5 @@
 -- The sink of a run over a file: its text, and what it has said after some of the records.
-use Rattle.std.specs.Prelude.{◌≡◌, ℕ, List, [], ◌++◌, Bool, true, false, length, Result}
-use Rattle.std.specs.declared.alloc.AllocError.{AllocError}
-use Rattle.std.specs.declared.alloc.Global.{Global}
-use Rattle.std.specs.declared.vec.Vec.{Vec}
+use Rattle.std.specs.Prelude.{◌≡◌, ℕ, List, [], ◌++◌, Bool, true, false}
 use Rattle.dds_topic.specs.Decoding.{Decoding}
 use Rattle.dds_participant.specs.Ports.{NoneAttached}
 use Rattle.rtps_text.specs.Batched.{IsDue}
@@ -29,17 +26,14 @@ is_late (Lines run printer) = false
 is_late (Caches kept) = true
 
 -- A run processed these records, and this was said for them; what is due for them is still to be
--- said. The run formats its values with its own catalog and prints the lines of all its readers,
--- and no reader has an outlet.
+-- said. The run formats its values with its own catalog, and no reader has an outlet.
 pub record IsPrinted {C V U M : Type 0} (text : C → M → List ℕ) (f : V → M)
-    (decoding : C → Decoding M) (run : RunLines C V U) (catalog : C) (readers : ℕ)
-    (texts : List (Result (Vec ℕ Global) AllocError)) (records : List Record) (said : List ℕ)
-    : Type 0 where
+    (decoding : C → Decoding M) (run : RunLines C V U) (catalog : C) (made : List ℕ)
+    (records : List Record) (said : List ℕ) : Type 0 where
   pub own : catalog ≡ run.participant.engine.catalog
-  pub count : readers ≡ length run.participant.engine.config.readers.items
   pub alone : NoneAttached run.participant.ports
   pub due : List ℕ
-  pub is_due : IsDue (text catalog) f texts run.given readers due
+  pub is_due : IsDue (text catalog) f made run.given due
   pub says : HasSaid text decoding records (said ++ due) run.participant.engine
 
 -- a run processed these records, nothing was said for them, and the notices of its readers are in
@@ -51,17 +45,16 @@ pub record IsKept {C V U M : Type 0} (f : V → M) (decoding : C → Decoding M)
       kept.caches.by_rank.items
   pub alone : NoneAttached kept.run.participant.ports
 
--- what a sink has said after these records, while these texts that workers made are still to be
--- written
+-- what a sink has said after these records, while this text that was made is still to be written
 unfoldable pub IsTaken : {C V U M : Type 0} → (C → M → List ℕ) → (V → M) → (C → Decoding M)
-    → Sink C V U → List (Result (Vec ℕ Global) AllocError) → List Record → List ℕ → Type 0
-IsTaken text f decoding (Lines run printer) texts records said =
-    IsPrinted text f decoding run printer.catalog.now printer.readers texts records said
-IsTaken text f decoding (Caches kept) texts records said = IsKept f decoding kept records said
+    → Sink C V U → List ℕ → List Record → List ℕ → Type 0
+IsTaken text f decoding (Lines run printer) made records said =
+    IsPrinted text f decoding run printer.catalog.now made records said
+IsTaken text f decoding (Caches kept) made records said = IsKept f decoding kept records said
 
 -- a sink processed some records, and the end of what it has said is kept back
 abbrev pub HasTaken : {C V U M : Type 0} → (C → M → List ℕ) → (V → M) → (C → Decoding M)
-    → Sink C V U → List (Result (Vec ℕ Global) AllocError) → List ℕ → Type 0
-HasTaken text f decoding sink texts left =
+    → Sink C V U → List ℕ → List ℕ → Type 0
+HasTaken text f decoding sink made left =
     (records : List Record) × (written : List ℕ)
-    × IsTaken text f decoding sink texts records (written ++ left)
+    × IsTaken text f decoding sink made records (written ++ left)

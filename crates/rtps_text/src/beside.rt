@@ -1,11 +1,10 @@
-//! Writing texts and reading a batch while two other calls are made.
+//! Writing a text and reading a batch while two other calls are made.
 
 ghost use Rattle.std.specs.Prelude.{◌≡◌, ◌⊎◌, ◌++◌, [], false, IfErr, IfSome, IsSomeAnd, List, OnErr, OnOk, Option, ℕ};
 ghost use Rattle.rtps_records.specs.Batches.{records_in};
 ghost use Rattle.rtps_records.specs.Runs.{Moves, PutsFront};
 ghost use Rattle.rtps_records.specs.declared.fault.RunFault.TheVariants.{CannotWrite, NoMemory};
 ghost use Rattle.rtps_text.specs.Ahead.{Ended, ReadsAhead, goes_on};
-ghost use Rattle.rtps_text.specs.Slices.{AreTexts};
 
 use crate::pipeline::ReadAhead;
 use rtps_records::{Lines, Records, RunFault};
@@ -13,7 +12,7 @@ use std::io::{Read, Write};
 use std::thread;
 use std::thread::Threads;
 
-/// Writes texts and reads the next batch on a thread of its own, as [`ReadAhead::write_and_read`]
+/// Writes a text and reads the next batch on a thread of its own, as [`ReadAhead::write_and_read`]
 /// does, while the first call is made on another thread and the second call on this one. Returns
 /// the result of the writing and reading, and the result of each call.
 pub(crate) fn write_and_read_beside<R, W, T, F, G, X, Y>(
@@ -34,7 +33,7 @@ where
     requires second { G.pre calls.1 }
     ensures first { F.post calls.0 result.1 }
     ensures second { G.post calls.1 result.2 }
-    ensures none { ahead.new.texts.made.items ≡ [] }
+    ensures none { ahead.new.text.items ≡ [] }
     ensures same_reader { records.new.reader.ghost_name ≡ records.old.reader.ghost_name }
     ensures same_format { records.new.format ≡ records.old.format }
     ensures same_writer { lines.new.writer.ghost_name ≡ lines.old.writer.ghost_name }
@@ -46,15 +45,13 @@ where
         (records_in ahead.new.next) ahead.new.end) }
     ensures still { goes_on ahead.old.end ≡ false
         → R.remaining records.new.reader.now ≡ R.remaining records.old.reader.now }
-    ensures ok { (whole : List ℕ) → AreTexts ahead.old.texts.made.items whole
-        → OnOk result.0 (Moves
+    ensures ok { OnOk result.0 (Moves
         (W.contents lines.old.writer.now) (W.contents lines.new.writer.now)
-        (lines.old.text.items ++ whole) lines.new.text.items) }
+        (lines.old.text.items ++ ahead.old.text.items) lines.new.text.items) }
     ensures fault { IfErr result.0 (λ fault. (fault ≡ CannotWrite) ⊎ (fault ≡ NoMemory)) }
-    ensures front { (whole : List ℕ) → AreTexts ahead.old.texts.made.items whole
-        → OnErr result.0 (PutsFront
+    ensures front { OnErr result.0 (PutsFront
         (W.contents lines.old.writer.now) (W.contents lines.new.writer.now)
-        (lines.old.text.items ++ whole)) }
+        (lines.old.text.items ++ ahead.old.text.items)) }
 {
     let mut due = Some(calls);
     let (done, made) = thread::join_mut(

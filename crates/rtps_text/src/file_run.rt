@@ -29,7 +29,7 @@ where
     C::Value: Sync,
     requires more { pipeline.ahead.end ≡ More }
     requires begun { IsTaken C.text_of C.view C.decoding sink
-        pipeline.ahead.texts.made.items [] [] }
+        pipeline.ahead.text.items [] [] }
     ensures ok { OnOk result (WroteAll (sink_text C.text_of C.decoding sink.entry)
         (R.remaining reader.old) (W.contents writer.old) (W.contents writer.new) None) }
     ensures fault { IfErr result (λ fault. StopsBy (is_late sink.entry)
@@ -37,7 +37,7 @@ where
         fault (R.remaining reader.old) (R.remaining reader.new)
         (W.contents writer.old) (W.contents writer.new)) }
 {
-    let mut lines = Lines::new(pipeline.ahead.texts.alloc, writer);
+    let mut lines = Lines::new(pipeline.alloc, writer);
     take_all(rt, sink, pipeline, &mut Records::new(reader), &mut lines)
 }
 
@@ -56,7 +56,7 @@ where
     requires empty { lines.old.text.items ≡ [] }
     requires more { pipeline.ahead.end ≡ More }
     requires begun { IsTaken C.text_of C.view C.decoding sink
-        pipeline.ahead.texts.made.items [] [] }
+        pipeline.ahead.text.items [] [] }
     ensures same_reader { records.new.reader.ghost_name ≡ records.old.reader.ghost_name }
     ensures same_writer { lines.new.writer.ghost_name ≡ lines.old.writer.ghost_name }
     ensures ok { OnOk result (WroteAll (sink_text C.text_of C.decoding sink.entry)
@@ -74,7 +74,7 @@ where
     }
     let end = pipeline.ahead.end;
     sink = sink.take_and_read(rt, &mut pipeline, records, lines)?;
-    sink.close(rt, &mut pipeline.ahead.texts, lines)?;
+    sink.close(&mut pipeline.ahead.text, lines)?;
     match end {
         BatchEnd::Fault(fault) => Err(fault),
         _ => Ok(()),

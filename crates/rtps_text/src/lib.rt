@@ -5,7 +5,6 @@ mod beside;
 mod caches;
 mod closing;
 mod file_run;
-mod line_formatter;
 mod listening;
 mod live;
 mod live_fault;
@@ -18,8 +17,6 @@ mod sampling;
 mod sending;
 mod setup;
 mod sink;
-mod slices;
-mod texts;
 
 pub use listening::listen;
 pub use live_fault::LiveFault;

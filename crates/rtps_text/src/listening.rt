@@ -1,7 +1,7 @@
 //! Printing a run over datagrams as they are received.
 
 ghost use Rattle.std.specs.Prelude.{◌≡◌, []};
-ghost use Rattle.dds_participant.specs.BatchOutput.{HoldsNothing};
+ghost use Rattle.rtps_run.specs.BatchOutput.{HoldsNothing};
 ghost use Rattle.rtps_text.specs.Live.{IsLive, live_by};
 ghost use Rattle.rtps_text.specs.Listened.{Listened, limits_of, live_run};
 ghost use Rattle.rtps_text.specs.Replayed.{HasSaid};

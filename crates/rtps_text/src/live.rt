@@ -8,25 +8,23 @@ ghost use Rattle.rtps_text.specs.Live.{BreaksOff, GoesOn, IsLive, PassStops, Pas
 ghost use Rattle.rtps_text.specs.Batched.{IsSameRun};
 ghost use Rattle.rtps_text.specs.Replayed.{HasSaid};
 
-use crate::printer::Printer;
+use crate::printing::print_items;
 use crate::running::RunLines;
 use crate::sending::send_answers;
-use crate::texts::Texts;
 use dds_topic::TextCatalog;
 use rtps_records::{Batch, Exchange, Lines, ReceiveEnd, RunFault};
 use std::alloc::AllocError;
 use std::io::Write;
 use std::thread::Threads;
 
-/// A run over datagrams as they are received, with its printer.
+/// A run over datagrams as they are received.
 #[derive(Drop)]
 pub(crate) struct Live<'c, C: TextCatalog> {
     pub run: RunLines<C>,
-    pub printer: Printer<'c, C>,
+    /// The catalog that formats the values.
+    pub catalog: &'c C,
     /// The batch that was received last.
     batch: Batch,
-    /// The texts that workers formatted for that batch.
-    texts: Texts,
     /// The number of datagrams that may still be received.
     pub left: u32,
     /// The moment that the clock gave last, in milliseconds; 0 before it is read.
@@ -52,13 +50,11 @@ where
         ensures moment { IfOk result (λ live. live.moment ≡ 0) }
         ensures live { IfOk result IsLive }
     {
-        let alloc = run.alloc;
-        let printer = Printer::new(catalog, &run);
+        let batch = Batch::new(run.alloc)?;
         Ok(Live {
             run,
-            printer,
-            batch: Batch::new(alloc)?,
-            texts: Texts::none(alloc),
+            catalog,
+            batch,
             left: datagrams,
             moment: 0,
         })
@@ -109,9 +105,9 @@ where
             (W.contents lines.old.writer.now) (W.contents lines.new.writer.now)) }
     {
         self.run.take_records(rt, &self.batch)?;
-        send_answers(network, &self.run.given);
-        self.printer
-            .print_last(rt, &self.run.given, &mut self.texts, lines)?;
+        let (alloc, given) = (self.run.alloc, &self.run.given);
+        send_answers(alloc, network, given)?;
+        print_items(alloc, lines, self.catalog, given)?;
         lines.close()?;
         lines.text.clear();
         Ok(())

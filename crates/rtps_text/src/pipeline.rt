@@ -6,19 +6,19 @@ ghost use Rattle.rtps_records.specs.Runs.{Moves, PutsFront};
 ghost use Rattle.rtps_records.specs.declared.batch_end.BatchEnd.TheVariants.{More};
 ghost use Rattle.rtps_records.specs.declared.fault.RunFault.TheVariants.{CannotWrite, NoMemory};
 ghost use Rattle.rtps_text.specs.Ahead.{Ended, ReadsAhead, goes_on};
-ghost use Rattle.rtps_text.specs.Slices.{AreTexts};
 
+use crate::printing::print_text;
 use crate::setup::Pace;
-use crate::texts::Texts;
 use rtps_records::{Batch, BatchEnd, Lines, Records, RunFault};
 use std::alloc::{AllocError, Global};
 use std::io::{Read, Write};
 
-/// What is kept from one batch to the next: texts that are still to be written, and a batch that
+/// What is kept from one batch to the next: a text that is still to be written, and a batch that
 /// was read ahead.
 #[derive(Drop)]
 pub(crate) struct ReadAhead {
-    pub texts: Texts,
+    /// The text of the batch before, which was formatted beside the next one.
+    pub text: Vec<u8>,
     /// The batch that was read last.
     pub next: Batch,
     /// What follows that batch in the file: more, a tick that was read, the end or a fault.
@@ -33,29 +33,32 @@ pub(crate) struct Pipeline {
     /// The batch that the run processes while the next one is read.
     pub batch: Batch,
     pub ahead: ReadAhead,
+    /// The allocator for the lines.
+    pub alloc: Global,
 }
 
 impl Pipeline {
-    /// Returns a pipeline without texts and without records. More of the file may follow.
+    /// Returns a pipeline without text and without records. More of the file may follow.
     pub(crate) fn new(alloc: Global, pace: Pace) -> Result<Pipeline, AllocError>
-        ensures none { IfOk result (λ pipeline. pipeline.ahead.texts.made.items ≡ []) }
+        ensures none { IfOk result (λ pipeline. pipeline.ahead.text.items ≡ []) }
         ensures more { IfOk result (λ pipeline. pipeline.ahead.end ≡ More) }
     {
         Ok(Pipeline {
             batch: Batch::new(alloc)?,
             ahead: ReadAhead::new(alloc, pace)?,
+            alloc,
         })
     }
 }
 
 impl ReadAhead {
-    /// Returns a state without texts and without records. More of the file may follow.
+    /// Returns a state without text and without records. More of the file may follow.
     fn new(alloc: Global, pace: Pace) -> Result<ReadAhead, AllocError>
-        ensures none { IfOk result (λ ahead. ahead.texts.made.items ≡ []) }
+        ensures none { IfOk result (λ ahead. ahead.text.items ≡ []) }
         ensures more { IfOk result (λ ahead. ahead.end ≡ More) }
     {
         Ok(ReadAhead {
-            texts: Texts::none(alloc),
+            text: Vec::new(alloc),
             next: Batch::new(alloc)?,
             end: BatchEnd::More,
             pace,
@@ -80,7 +83,7 @@ impl ReadAhead {
     pub(crate) fn read<R: Read>(&mut self, records: &mut Records<'_, R>) -> Result<(), RunFault>
         ensures same_reader { records.new.reader.ghost_name ≡ records.old.reader.ghost_name }
         ensures same_format { records.new.format ≡ records.old.format }
-        ensures texts { self.new.texts ≡ self.old.texts }
+        ensures text { self.new.text ≡ self.old.text }
         ensures reads { (here : Option (List ℕ)) (n : ℕ)
             → Ended records.old.format self.old.end records.old.count
             (R.remaining records.old.reader.now) n here
@@ -102,11 +105,11 @@ impl ReadAhead {
         Ok(())
     }
 
-    /// Adds the texts to the lines, and writes the lines out whenever they are full; then reads as
+    /// Adds the text to the lines, and writes the lines out if they are full; then reads as
     /// [`ReadAhead::read`] does.
     ///
     /// Returns `CannotWrite` if a write fails, and `NoMemory` if memory runs out. A prefix of the
-    /// texts may have been written by then. No thread is started: `_threads` is there because the
+    /// text may have been written by then. No thread is started: `_threads` is there because the
     /// other half of a join, which starts threads, borrows it too.
     pub(crate) fn write_and_read<R: Read, W: Write, T>(
         &mut self,
@@ -114,7 +117,7 @@ impl ReadAhead {
         records: &mut Records<'_, R>,
         lines: &mut Lines<'_, W>,
     ) -> Result<(), RunFault>
-        ensures none { self.new.texts.made.items ≡ [] }
+        ensures none { self.new.text.items ≡ [] }
         ensures same_reader { records.new.reader.ghost_name ≡ records.old.reader.ghost_name }
         ensures same_format { records.new.format ≡ records.old.format }
         ensures same_writer { lines.new.writer.ghost_name ≡ lines.old.writer.ghost_name }
@@ -126,17 +129,15 @@ impl ReadAhead {
             (records_in self.new.next) self.new.end) }
         ensures still { goes_on self.old.end ≡ false
             → R.remaining records.new.reader.now ≡ R.remaining records.old.reader.now }
-        ensures ok { (whole : List ℕ) → AreTexts self.old.texts.made.items whole
-            → OnOk result (Moves
+        ensures ok { OnOk result (Moves
             (W.contents lines.old.writer.now) (W.contents lines.new.writer.now)
-            (lines.old.text.items ++ whole) lines.new.text.items) }
+            (lines.old.text.items ++ self.old.text.items) lines.new.text.items) }
         ensures fault { IfErr result (λ fault. (fault ≡ CannotWrite) ⊎ (fault ≡ NoMemory)) }
-        ensures front { (whole : List ℕ) → AreTexts self.old.texts.made.items whole
-            → OnErr result (PutsFront
+        ensures front { OnErr result (PutsFront
             (W.contents lines.old.writer.now) (W.contents lines.new.writer.now)
-            (lines.old.text.items ++ whole)) }
+            (lines.old.text.items ++ self.old.text.items)) }
     {
-        self.texts.write(lines)?;
+        print_text(lines, &mut self.text)?;
         self.read(records)
     }
 }

@@ -1,49 +1,130 @@
-//! Writing the lines of a batch.
+//! Formatting and writing the results of a batch.
 
-ghost use Rattle.std.specs.Prelude.{◌≡◌, ◌⊎◌, ◌++◌, IfErr, List, OnErr, OnOk, ℕ};
+ghost use Rattle.std.specs.Prelude.{◌≡◌, ◌⊎◌, ◌++◌, [], IfErr, OnErr, OnOk};
+ghost use Rattle.std.specs.Io.{StartsWith};
 ghost use Rattle.rtps_records.specs.Runs.{Moves, PutsFront};
 ghost use Rattle.rtps_records.specs.declared.fault.RunFault.TheVariants.{CannotWrite, NoMemory};
-ghost use Rattle.dds_participant.specs.BatchOutput.{parts_given};
-ghost use Rattle.rtps_text.specs.Slices.{AreTexts, places_lines};
+ghost use Rattle.rtps_run.specs.BatchOutput.{IsInOrder};
+ghost use Rattle.rtps_run.specs.Order.{report_of, seen};
+ghost use Rattle.rtps_text.specs.Batched.{batch_lines};
+ghost use Rattle.rtps_text.specs.Replayed.{put_line};
 
-use crate::slices::Cursors;
-use dds_participant::BatchOutput;
 use dds_topic::TextCatalog;
-use rtps_lines::LastLines;
+use rtps_lines::{LastLines, push_answer, push_notice};
 use rtps_records::{Lines, RunFault};
-use std::alloc::{AllocError, Global};
+use rtps_run::{BatchOutput, Item, in_order};
+use rtps_types::Place;
+use std::alloc::{AllocError, Allocator, Global};
 use std::io::Write;
+use std::marker::Model;
 use std::mem;
 
-/// Adds the lines of a batch's output, place by place, and writes them out whenever they are full.
-/// The cursors tell how much of the output was printed before.
+/// Formats the results of a batch, item by item.
+#[derive(Drop)]
+struct ItemFormatter<'c, 'n, C: TextCatalog> {
+    /// The lines that were formatted last, and the catalog.
+    last: LastLines<'c, 'n, C>,
+    /// The rank of the reader of the last notice, and the place of that notice.
+    spot: Option<(u32, Place)>,
+    /// The number of notices of that reader at that place before the last one.
+    index: usize,
+}
+
+impl<'c, 'n, C: TextCatalog> Model for ItemFormatter<'c, 'n, C> {
+    ghost Value = { C };
+
+    ghost view = { λ f. f.last };
+}
+
+impl<'c, 'n, C: TextCatalog> ItemFormatter<'c, 'n, C> {
+    /// Returns a formatter whose values the catalog formats. No memory is taken.
+    fn new(alloc: Global, catalog: &'c C) -> ItemFormatter<'c, 'n, C>
+        ensures { result ≡ catalog.now }
+    {
+        ItemFormatter {
+            last: LastLines::none(alloc, catalog),
+            spot: None,
+            index: 0,
+        }
+    }
+
+    /// Returns the number of notices of this reader at this place that came before, and counts one
+    /// more.
+    fn index_at(&mut self, rank: u32, place: Place) -> usize
+        ensures { self.new ≡ self.old }
+    {
+        if self.spot == Some((rank, place)) {
+            self.index = self.index.saturating_add(1);
+        } else {
+            self.spot = Some((rank, place));
+            self.index = 0;
+        }
+        self.index
+    }
+
+    /// Adds the line of an item.
+    fn push<A: Allocator>(
+        &mut self,
+        out: &mut Vec<u8, A>,
+        item: Item<'n, C::Value>,
+    ) -> Result<(), AllocError>
+        ensures ok { OnOk result (out.new.items ≡ out.old.items
+            ++ put_line (C.text_of self.old) (seen C.view (report_of item.entry))) }
+        ensures keeps { StartsWith out.new.items out.old.items }
+        ensures same { self.new ≡ self.old }
+    {
+        match item {
+            Item::Notice(rank, notice) => {
+                let index = self.index_at(rank, notice.place);
+                push_notice(out, &mut self.last, rank, index, notice)
+            }
+            Item::Answer(_, (place, reply)) => {
+                push_answer(out, *place, reply.to.as_slice(), reply.octets.as_slice())
+            }
+        }
+    }
+}
+
+/// Adds the lines of the results of a batch.
+pub(crate) fn push_items<'g, C: TextCatalog, A: Allocator>(
+    alloc: Global,
+    out: &mut Vec<u8, A>,
+    catalog: &'g C,
+    given: &'g BatchOutput<C::Value>,
+) -> Result<(), AllocError>
+    ensures { IsInOrder C.view given.now → OnOk result (out.new.items ≡ out.old.items
+        ++ batch_lines (C.text_of catalog.now) C.view given.now) }
+{
+    let mut formatter = ItemFormatter::new(alloc, catalog);
+    for item in in_order::<C>(alloc, given)? {
+        formatter.push(out, item)?;
+    }
+    Ok(())
+}
+
+/// Adds the lines of the results of a batch, and writes the lines out whenever they are full.
 ///
 /// Returns `CannotWrite` if a write fails, and `NoMemory` if memory runs out. A prefix of the lines
 /// may have been written by then.
-pub(crate) fn print_places<'g, C: TextCatalog, W: Write>(
+pub(crate) fn print_items<'g, C: TextCatalog, W: Write>(
     alloc: Global,
     lines: &mut Lines<'_, W>,
     catalog: &'g C,
     given: &'g BatchOutput<C::Value>,
-    cursors: &mut Cursors,
 ) -> Result<(), RunFault>
     ensures same_writer { lines.new.writer.ghost_name ≡ lines.old.writer.ghost_name }
-    ensures ok { OnOk result (Moves
+    ensures ok { IsInOrder C.view given.now → OnOk result (Moves
         (W.contents lines.old.writer.now) (W.contents lines.new.writer.now)
-        (lines.old.text.items ++ places_lines (C.text_of catalog.now)
-        (parts_given C.view given.now) given.now.places.items
-        cursors.old.said cursors.old.readers.items)
+        (lines.old.text.items ++ batch_lines (C.text_of catalog.now) C.view given.now)
         lines.new.text.items) }
     ensures fault { IfErr result (λ fault. (fault ≡ CannotWrite) ⊎ (fault ≡ NoMemory)) }
-    ensures front { OnErr result (PutsFront
+    ensures front { IsInOrder C.view given.now → OnErr result (PutsFront
         (W.contents lines.old.writer.now) (W.contents lines.new.writer.now)
-        (lines.old.text.items ++ places_lines (C.text_of catalog.now)
-        (parts_given C.view given.now) given.now.places.items
-        cursors.old.said cursors.old.readers.items)) }
+        (lines.old.text.items ++ batch_lines (C.text_of catalog.now) C.view given.now)) }
 {
-    let mut last = LastLines::none(alloc, catalog);
-    for place in &given.places {
-        cursors.push_place(&mut lines.text, &mut last, given, *place)?;
+    let mut formatter = ItemFormatter::new(alloc, catalog);
+    for item in in_order::<C>(alloc, given)? {
+        formatter.push(&mut lines.text, item)?;
         lines.write_if_full()?;
     }
     Ok(())
@@ -62,35 +143,27 @@ fn add_text(whole: &mut Vec<u8>, text: &mut Vec<u8>) -> Result<(), AllocError>
     whole.append(text)
 }
 
-/// Keeps a buffer for reuse, or drops it if there is no memory for its place in the list.
-fn keep(spare: &mut Vec<Vec<u8>>, text: Vec<u8>) {
-    let _kept = spare.push(text);
-}
-
-/// Adds the texts in order, and writes the lines out whenever they are full. The buffers of the
-/// texts are kept in `spare`.
+/// Adds a text that was formatted before, and writes the lines out if they are full. The text is
+/// empty afterwards and keeps its memory, or that of the lines.
 ///
-/// Returns `CannotWrite` if a write fails, and `NoMemory` if memory runs out or if there was none
-/// for one of the texts. A prefix of the texts may have been written by then.
-pub(crate) fn print_texts<W: Write>(
+/// Returns `CannotWrite` if the write fails, and `NoMemory` if memory runs out. A prefix of the text
+/// may have been written by then.
+pub(crate) fn print_text<W: Write>(
     lines: &mut Lines<'_, W>,
-    texts: Vec<Result<Vec<u8>, AllocError>>,
-    spare: &mut Vec<Vec<u8>>,
+    text: &mut Vec<u8>,
 ) -> Result<(), RunFault>
+    ensures none { text.new.items ≡ [] }
     ensures same_writer { lines.new.writer.ghost_name ≡ lines.old.writer.ghost_name }
-    ensures ok { (whole : List ℕ) → AreTexts texts.items whole → OnOk result (Moves
+    ensures ok { OnOk result (Moves
         (W.contents lines.old.writer.now) (W.contents lines.new.writer.now)
-        (lines.old.text.items ++ whole) lines.new.text.items) }
+        (lines.old.text.items ++ text.old.items) lines.new.text.items) }
     ensures fault { IfErr result (λ fault. (fault ≡ CannotWrite) ⊎ (fault ≡ NoMemory)) }
-    ensures front { (whole : List ℕ) → AreTexts texts.items whole → OnErr result (PutsFront
+    ensures front { OnErr result (PutsFront
         (W.contents lines.old.writer.now) (W.contents lines.new.writer.now)
-        (lines.old.text.items ++ whole)) }
+        (lines.old.text.items ++ text.old.items)) }
 {
-    for made in texts {
-        let mut text = made?;
-        add_text(&mut lines.text, &mut text)?;
-        lines.write_if_full()?;
-        keep(spare, text);
-    }
-    Ok(())
+    let added = add_text(&mut lines.text, text);
+    text.clear();
+    added?;
+    lines.write_if_full()
 }

@@ -4,7 +4,7 @@ ghost use Rattle.std.specs.Prelude.{◌≡◌, [], IfErr, None, OnOk};
 ghost use Rattle.rtps_records.specs.Runs.{Stops, WroteAll};
 ghost use Rattle.dds_participant.specs.Ports.{NoneAttached};
 ghost use Rattle.rtps_text.specs.Replayed.{HasSaid, replay_text, text_by};
-ghost use Rattle.dds_participant.specs.BatchOutput.{HoldsNothing};
+ghost use Rattle.rtps_run.specs.BatchOutput.{HoldsNothing};
 
 use crate::file_run::run_file;
 use crate::pipeline::Pipeline;

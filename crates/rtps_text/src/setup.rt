@@ -1,10 +1,10 @@
 //! The settings of a run.
 
-ghost use Rattle.std.specs.Prelude.{◌≡◌, ◌≤◌, ◌+◌, ◌*◌, ◌/◌, Ok, length, max, min};
+ghost use Rattle.std.specs.Prelude.{◌≡◌, ◌≤◌, ◌+◌, ◌*◌, ◌/◌, ◌&&◌, Ok, length, max, min, nat_lt};
 ghost use Rattle.rtps_discovery.specs.Config.{check_of};
 ghost use Rattle.dds_cache.specs.Cache.{IsHistory};
 ghost use Rattle.rtps_text.specs.Entries.{IsHistory-prop};
-ghost use Rattle.rtps_text.specs.Setup.{formatters_of, runners_of, saturated, sharing};
+ghost use Rattle.rtps_text.specs.Setup.{runners_of, saturated, sharing};
 
 use dds_cache::History;
 use rtps_discovery::Config;
@@ -34,8 +34,8 @@ const STEPS: usize = 1_024;
 /// Copying this many octets of a datagram takes a reader about as long as a step.
 const OCTETS: usize = 2_048;
 
-/// The minimum number of lines for each worker that formats them, for the same reason.
-const LINES: usize = 1_024;
+/// The minimum number of lines for a thread that formats them, for the same reason.
+const LINES: usize = 2_048;
 
 impl Pace {
     /// Returns the pace of a run beside the thread that formats: three quarters of the workers, but
@@ -44,27 +44,9 @@ impl Pace {
         ensures batch { result.batch ≡ self.batch }
         ensures workers { result.workers ≡ max (self.workers * 3 / 4) (min self.workers 2) }
     {
-        self.shared_by(self.workers * 3 / 4)
-    }
-
-    /// Returns the pace of formatting after a run of this pace: two thirds of its workers, which is
-    /// half of all, but at least two if there are several.
-    pub(crate) fn formatting(self) -> Pace
-        ensures batch { result.batch ≡ self.batch }
-        ensures workers { result.workers ≡ max (self.workers * 2 / 3) (min self.workers 2) }
-    {
-        self.shared_by(self.workers * 2 / 3)
-    }
-
-    /// Returns this pace with another number of workers, but at least two if there are several.
-    fn shared_by(self, workers: u8) -> Pace
-        requires { workers ≤ 64 }
-        ensures batch { result.batch ≡ self.batch }
-        ensures workers { result.workers ≡ max workers (min self.workers 2) }
-    {
         Pace {
             batch: self.batch,
-            workers: workers.max(self.workers.min(2)),
+            workers: (self.workers * 3 / 4).max(self.workers.min(2)),
         }
     }
 
@@ -83,12 +65,12 @@ impl Pace {
         self.at_most(steps.saturating_mul(readers as usize) / STEPS)
     }
 
-    /// Returns how many workers format this number of lines.
-    pub(crate) fn formatters(&self, lines: usize) -> usize
-        ensures shared { result ≡ formatters_of self.now.workers lines }
-        ensures within { (1 ≤ result) × (result ≤ 64) }
+    /// Whether this number of lines is formatted beside the next batch: if there are several workers
+    /// and enough lines for one more thread.
+    pub(crate) fn formats_beside(&self, lines: usize) -> bool
+        ensures { result ≡ nat_lt 1 self.now.workers && nat_lt 2047 lines }
     {
-        self.at_most(lines / LINES)
+        self.workers > 1 && lines >= LINES
     }
 
     /// Returns this number of workers if there are as many, and at least one.

@@ -12,7 +12,6 @@ use crate::pipeline::Pipeline;
 use crate::printer::Printer;
 use crate::running::RunLines;
 use crate::sampling::RunCaches;
-use crate::texts::Texts;
 use dds_topic::TextCatalog;
 use rtps_records::{Lines, Records, RunFault};
 use std::io::{Read, Write};
@@ -47,14 +46,14 @@ where
     ) -> Result<Sink<'c, C>, RunFault>
         requires few { length (records_in pipeline.old.ahead.next) ≤ 4096 }
         requires taken { HasTaken C.text_of C.view C.decoding self
-            pipeline.old.ahead.texts.made.items lines.old.text.items }
+            pipeline.old.ahead.text.items lines.old.text.items }
         ensures text { IfOk result (λ now. (those : List Record)
             → sink_text C.text_of C.decoding now those
             ≡ sink_text C.text_of C.decoding self.entry those) }
         ensures late { IfOk result (λ now. is_late now ≡ is_late self.entry) }
         ensures takes { IfOk result (λ now. Takes
-            (IsTaken C.text_of C.view C.decoding self.entry pipeline.old.ahead.texts.made.items)
-            (IsTaken C.text_of C.view C.decoding now pipeline.new.ahead.texts.made.items)
+            (IsTaken C.text_of C.view C.decoding self.entry pipeline.old.ahead.text.items)
+            (IsTaken C.text_of C.view C.decoding now pipeline.new.ahead.text.items)
             (records_in pipeline.old.ahead.next)
             (W.contents lines.old.writer.now) (W.contents lines.new.writer.now)
             lines.old.text.items lines.new.text.items) }
@@ -71,7 +70,7 @@ where
         ensures same_writer { lines.new.writer.ghost_name ≡ lines.old.writer.ghost_name }
         ensures fault { IfErr result (λ fault. (fault ≡ CannotWrite) ⊎ (fault ≡ NoMemory)) }
         ensures front { OnErr result (TakesFront
-            (IsTaken C.text_of C.view C.decoding self.entry pipeline.old.ahead.texts.made.items)
+            (IsTaken C.text_of C.view C.decoding self.entry pipeline.old.ahead.text.items)
             (sink_text C.text_of C.decoding self.entry)
             (records_in pipeline.old.ahead.next)
             (W.contents lines.old.writer.now) (W.contents lines.new.writer.now)
@@ -94,30 +93,29 @@ where
     ///
     /// Returns `CannotWrite` if a write fails, and `NoMemory` if memory runs out. A prefix of what
     /// was to be printed may have been written by then.
-    pub(crate) fn close<W: Write, T: Threads + Sync>(
+    pub(crate) fn close<W: Write>(
         self,
-        rt: &T,
-        texts: &mut Texts,
+        text: &mut Vec<u8>,
         lines: &mut Lines<'_, W>,
     ) -> Result<(), RunFault>
         requires taken { HasTaken C.text_of C.view C.decoding self
-            texts.old.made.items lines.old.text.items }
+            text.old.items lines.old.text.items }
         ensures same_writer { lines.new.writer.ghost_name ≡ lines.old.writer.ghost_name }
         ensures ok { OnOk result (Finishes
-            (IsTaken C.text_of C.view C.decoding self.entry texts.old.made.items)
+            (IsTaken C.text_of C.view C.decoding self.entry text.old.items)
             (sink_text C.text_of C.decoding self.entry)
             (W.contents lines.old.writer.now) (W.contents lines.new.writer.now)
             lines.old.text.items) }
         ensures fault { IfErr result (λ fault. (fault ≡ CannotWrite) ⊎ (fault ≡ NoMemory)) }
         ensures front { IfErr result (λ fault. FinishesFront (is_late self.entry) fault
-            (IsTaken C.text_of C.view C.decoding self.entry texts.old.made.items)
+            (IsTaken C.text_of C.view C.decoding self.entry text.old.items)
             (sink_text C.text_of C.decoding self.entry)
             (W.contents lines.old.writer.now) (W.contents lines.new.writer.now)
             lines.old.text.items) }
     {
         match self {
             Sink::Lines { run, mut printer } => {
-                printer.print_last(rt, &run.given, texts, lines)?;
+                printer.print_last(&run.given, text, lines)?;
                 run.close(lines)
             }
             Sink::Caches(mut kept) => kept.close(lines),

@@ -90,7 +90,7 @@ impl<'a> Receiver<'a> {
         }
         self.participant
             .run_in_order(rt, alloc, &workers, &datagrams, &mut self.given)?;
-        send_answers(&mut self.network, &self.given);
+        send_answers(alloc, &mut self.network, &self.given)?;
         // Notices that the ring has no room for are delivered in a later turn.
         self.participant.deliver(SQUARES);
         Ok(())

@@ -214,28 +214,22 @@ fn prints_a_run_however_it_is_cut_and_shared(rt: HostRuntime) -> Result<(), Fail
 }
 
 #[test]
-fn workers_run_and_format_and_two_at_the_least(rt: HostRuntime) -> Result<(), Fail> {
+fn three_quarters_of_the_workers_run_beside_the_one_that_formats(
+    rt: HostRuntime,
+) -> Result<(), Fail> {
     let four = Pace {
         batch: 9,
         workers: 4,
     };
     let [one, two, seven, all] = PACES;
-    for (pace, run, format) in [
-        (one, 1, 1),
-        (two, 2, 2),
-        (four, 3, 2),
-        (seven, 5, 3),
-        (all, 48, 32),
-    ] {
-        let (running, formatting) = (pace.running(), pace.running().formatting());
+    for (pace, run) in [(one, 1), (two, 2), (four, 3), (seven, 5), (all, 48)] {
+        let running = pace.running();
         assert!(rt;
             (running.batch, running.workers) == (pace.batch, run),
             "{run}"
         );
-        assert!(rt;
-            (formatting.batch, formatting.workers) == (pace.batch, format),
-            "{run}"
-        );
+        assert!(rt; running.formats_beside(2_048) == (run > 1), "{run}");
+        assert!(rt; !running.formats_beside(2_047), "{run}");
     }
     Ok(())
 }

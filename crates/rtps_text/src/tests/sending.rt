@@ -1,10 +1,10 @@
 //! Sending answers to a network that keeps them.
 
 use crate::send_answers;
-use dds_participant::BatchOutput;
 use dds_topic::Shape;
 use rtps_reader::Output;
 use rtps_records::{Exchange, Receive};
+use rtps_run::BatchOutput;
 use rtps_types::{Locator, Locators, Octets, Place, Reply};
 use std::alloc::{AllocError, Global};
 use std::io;
@@ -100,7 +100,7 @@ fn answers_go_by_place_and_to_each_locator(rt: HostRuntime) -> Result<(), Fail> 
     let mut network = Kept {
         sent: Vec::new(alloc),
     };
-    send_answers(&mut network, &given);
+    send_answers(alloc, &mut network, &given)?;
     let wanted = [
         (7416, 3),
         (7418, 5),

@@ -1,4 +1,4 @@
-use Rattle.std.proofs.Common.{◌≡◌, ◌∙◌, ◌∷◌, [], arith, false, refl, rules, subst, sym, true}
+use Rattle.std.proofs.Common.{◌≡◌, ◌∙◌, ◌∷◌, [], Global, Vec, ℕ, arith, false, refl, rules, subst, sym, true}
 use Rattle.rtps_records.specs.Batches.{EndsBatch}
 use Rattle.rtps_records.specs.RecordFile.{Tick}
 use Rattle.rtps_records.specs.declared.batch_end.BatchEnd.{BatchEnd}
@@ -6,7 +6,6 @@ use Rattle.rtps_records.proofs.Faults.{at_fault}
 use Rattle.rtps_records.proofs.Progress.{ended, started, stops_at_once, stops_first, stops_here}
 use Rattle.rtps_text.specs.Ahead.{Ended, goes_on}
 use Rattle.rtps_text.specs.Sink.{IsTaken}
-use Rattle.rtps_text.specs.declared.texts.Texts.{Texts}
 use Rattle.rtps_text.proofs.Batches.{at_end, ends_here, fault_in, fewer_left}
 use Rattle.rtps_text.proofs.FileRun.{all_written, stops_by, stops_finishing, stops_taking, taken_last, taken_on}
 use Rattle.rtps_text.proofs.FileRun as file
@@ -42,7 +41,7 @@ loop-sink-init g c =
         few = search rules;
         ahead = c.in_ok-read.ensures.reads here count start;
         so_far = rw (c.open.ensures.count ∙ c.requires.unread) (rw c.requires.empty (started _ _ _ _ _
-            (subst (λ (t : Texts). IsTaken g.C.Catalog.text_of g.C.Catalog.view g.C.Catalog.decoding c.args.sink t.made.items [] []) (sym c.read.ensures.texts) c.requires.begun) (rw c.in_ok-open.ensures.format c.in_ok-open.ensures.ok)));
+            (subst (λ (t : Vec ℕ Global). IsTaken g.C.Catalog.text_of g.C.Catalog.view g.C.Catalog.decoding c.args.sink t.items [] []) (sym c.read.ensures.text) c.requires.begun) (rw c.in_ok-open.ensures.format c.in_ok-open.ensures.ok)));
       });
     }
 

@@ -12,7 +12,7 @@ invariant-loop-sink g l = record {
   same_writer : l.lines.writer.ghost_name ≡ l.fn.lines.writer.ghost_name;
   text : (those : List Record) → sink_text g.C.Catalog.text_of g.C.Catalog.decoding l.sink those ≡ sink_text g.C.Catalog.text_of g.C.Catalog.decoding l.fn.sink those;
   late : is_late l.sink ≡ is_late l.fn.sink;
-  taking : IsTaking l.records.format (IsTaken g.C.Catalog.text_of g.C.Catalog.view g.C.Catalog.decoding l.sink l.pipeline.ahead.texts.made.items) (g.R.Read.remaining l.fn.records.reader.now) (g.W.Write.contents l.fn.lines.writer.now)
+  taking : IsTaking l.records.format (IsTaken g.C.Catalog.text_of g.C.Catalog.view g.C.Catalog.decoding l.sink l.pipeline.ahead.text.items) (g.R.Read.remaining l.fn.records.reader.now) (g.W.Write.contents l.fn.lines.writer.now)
       (records_in l.pipeline.ahead.next) l.pipeline.ahead.end (g.R.Read.remaining l.records.reader.now) l.records.count (g.W.Write.contents l.lines.writer.now) l.lines.text.items;
 }
 

@@ -9,8 +9,8 @@ returns-in_err-pipeline-clause-fault g c = at_fault _ _ _ c.from_residual.ensure
 
 pub run_file-requires-clause-begun : goal.run_file-requires-clause-begun
 run_file-requires-clause-begun g c κs within =
-    lines_begun g.C.Catalog.text_of g.C.Catalog.view g.C.Catalog.decoding c.args.run c.new-printer.result c.in_ok-pipeline.pipeline.ahead.texts.made.items c.args.catalog.now
-    c.new-printer.ensures.catalog c.requires.own c.new-printer.ensures.readers c.requires.alone c.requires.nothing c.requires.fresh c.in_ok-pipeline.ensures.none
+    lines_begun g.C.Catalog.text_of g.C.Catalog.view g.C.Catalog.decoding c.args.run c.new-printer.result c.in_ok-pipeline.pipeline.ahead.text.items c.args.catalog.now
+    c.new-printer.ensures c.requires.own c.requires.alone c.requires.nothing c.requires.fresh c.in_ok-pipeline.ensures.none
 
 pub returns-clause-ok : goal.returns-clause-ok
 returns-clause-ok g c = lines_wrote g.C.Catalog.text_of g.C.Catalog.decoding c.args.run c.new-printer.result _ _ _ c.run_file.result c.run_file.ensures.ok

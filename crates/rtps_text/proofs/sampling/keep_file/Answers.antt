@@ -9,7 +9,7 @@ returns-in_err-pipeline-clause-fault g c = at_fault _ _ _ c.from_residual.ensure
 
 pub run_file-requires-clause-begun : goal.run_file-requires-clause-begun
 run_file-requires-clause-begun g c κs within =
-    caches_begun g.C.Catalog.text_of g.C.Catalog.view g.C.Catalog.decoding c.args.kept c.in_ok-pipeline.pipeline.ahead.texts.made.items c.requires.fresh c.requires.alone
+    caches_begun g.C.Catalog.text_of g.C.Catalog.view g.C.Catalog.decoding c.args.kept c.in_ok-pipeline.pipeline.ahead.text.items c.requires.fresh c.requires.alone
 
 pub returns-clause-ok : goal.returns-clause-ok
 returns-clause-ok g c = caches_wrote g.C.Catalog.text_of g.C.Catalog.decoding c.args.kept _ _ _ c.run_file.result c.run_file.ensures.ok

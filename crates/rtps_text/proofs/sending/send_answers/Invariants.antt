@@ -1,10 +1,12 @@
-use Rattle.std.proofs.Common.{take}
-use Rattle.std.specs.List.{flat_map}
-use Rattle.rtps_text.specs.Sending.{AreAnswersByPlace, Sends, place_sends}
+use Rattle.std.proofs.Common.{◌≡◌, ◌++◌, map}
+use Rattle.rtps_records.specs.Traffic.{Grows}
+use Rattle.rtps_run.specs.Order.{report_of}
+use Rattle.rtps_text.specs.Sending.{sendings, sends_of}
 use Rattle.rtps_text.proofs.sending.send_answers.Given as goal
 
-abbrev pub invariant-loop-place : goal.invariant-loop-place
-invariant-loop-place g l =
-    Sends (AreAnswersByPlace l.given)
-    (g.N.Receive.traffic l.fn.network) (g.N.Receive.traffic l.network)
-    (flat_map (place_sends l.given) (take l.place-index l.given.places.items))
+abbrev pub invariant-loop-item : goal.invariant-loop-item
+invariant-loop-item g l = record {
+  grows : Grows (g.N.Receive.traffic l.fn.network) (g.N.Receive.traffic l.network)
+      (sendings (sends_of (map report_of l.yielded)));
+  all : l.initial.item-iterator ≡ map report_of l.yielded ++ l.item-iterator;
+}

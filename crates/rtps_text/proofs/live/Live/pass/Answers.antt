@@ -14,7 +14,7 @@ returns-clause-goes_on g c =
     let text = g.C.Catalog.text_of in
     let view = g.C.Catalog.view in
     let decoding = g.C.Catalog.decoding in
-    let live = live_as c.args.self.now _ c.requires.live refl refl refl in
+    let live = live_as c.args.self.now _ c.requires.live refl refl in
     rw (c.process.ensures.left, c.process.ensures.moment)
     (on_ok_both c.process.result (λ same done. λ first start origin most waits waited l.
     goes_on text view decoding first start _ _ origin _ _ most _ _ waits 1 _ _ 0 0 _
@@ -29,7 +29,7 @@ returns-clause-stops g c =
     let text = g.C.Catalog.text_of in
     let view = g.C.Catalog.view in
     let decoding = g.C.Catalog.decoding in
-    let live = live_as c.args.self.now _ c.requires.live refl refl refl in
+    let live = live_as c.args.self.now _ c.requires.live refl refl in
     if_err_then c.process.result (λ fault off. λ first start origin most waits waited l.
     breaks_off text view decoding first start _ _ origin _ _ most _ waits 1 _ _ 0 0 _
     c.process.new.self (Tick c.args.moment ∷ []) _ Drained fault live

@@ -47,7 +47,7 @@ returns-in_err-process-clause-stops g c =
     let comes = comes_received c.args.self.now.moment _ _ c.in_ok-end.end heard.are in
     stopped_same _ _ most (waits + 0) waits _ _ _ _ _ refl (omega arith)
     (breaks_off text view decoding first _ _ _ origin _ _ most _ waits 0 _ _ _ _
-    _ c.process.new.self _ _ More _ (live_as c.args.self.now _ c.requires.live refl refl refl)
+    _ c.process.new.self _ _ More _ (live_as c.args.self.now _ c.requires.live refl refl)
     comes heard.grows few c.in_err-process.ensures.stops l
     (keeps_turn text decoding first _ origin _ most _ waits _ _ _ _ More _ _ _ comes l)))
 
@@ -67,7 +67,7 @@ returns-clause-goes_on g c = λ first origin most waits l.
     c.args.self.now.moment c.in_ok-end.end c.process.new.self.run.participant.engine) (add-zero waits)
     (goes_on text view decoding first _ _ _ origin _ _ most _ _ waits 0 _ _ _ _ _
     c.process.new.self batch _ More c.in_ok-end.end
-    (live_as c.args.self.now _ c.requires.live refl refl refl) c.in_ok-process.ensures.same
+    (live_as c.args.self.now _ c.requires.live refl refl) c.in_ok-process.ensures.same
     comes refl refl heard.grows
     (λ calls sends. last_is c.in_ok-end.end calls heard.datagrams sends) left
     c.in_ok-process.ensures.processes l

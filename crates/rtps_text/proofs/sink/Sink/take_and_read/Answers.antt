@@ -37,7 +37,7 @@ returns-in_ok-run-in-Lines-clause-late g c =
 pub returns-in_ok-run-in-Lines-clause-takes : goal.returns-in_ok-run-in-Lines-clause-takes
 returns-in_ok-run-in-Lines-clause-takes g c =
     lines_taken g.C.Catalog.text_of g.C.Catalog.view g.C.Catalog.decoding c.args.self c.in-Lines.run' _ c.in-Lines.printer c.print_and_take.new.self _ _ _ _ _ _ _ c.in-Lines.is c.in_ok-run-in-Lines.ensures.same
-    c.print_and_take.ensures.catalog c.print_and_take.ensures.readers c.in_ok-run-in-Lines.ensures.takes c.in_ok-run-in-Lines.ensures.ok
+    c.print_and_take.ensures.catalog c.in_ok-run-in-Lines.ensures.takes c.in_ok-run-in-Lines.ensures.ok
 
 pub returns-in_ok-read-in-Caches-clause-text : goal.returns-in_ok-read-in-Caches-clause-text
 returns-in_ok-read-in-Caches-clause-text g c =
