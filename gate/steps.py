@@ -103,33 +103,27 @@ def layout(gate):
 
 
 def prove(gate, crate, jobs):
-    """Proves a library over the work that is kept and builds it, which rt lib does in one, where it isn't known to be done with
-    all that it hangs on as it is. A program is proved by rt check, which looks for contracts that no call can meet too."""
+    """Proves a crate over the work that is kept, where it isn't known to be done with all that it hangs on as it is: a library by
+    rt lib, which builds it in one, and a program by rt check."""
     built = lambda: joined_sum(sources_sum(crate, gate.kept.toolchain), tree_sum(crate.out / "rlib"))
     total, library = joined_sum(gate.code, shown_total(gate, crate)), f"{crate.name}: library"
-    count, seconds = gate.kept.passed(crate.name, total), 0.0
-    is_known = count > 0 and (crate.is_program or gate.kept.passed(library, built()) > 0)
-    if not is_known:
-        words = ["rt", "check", "--empty-contracts"] if crate.is_program else ["rt", "lib"]
-        with gate.rooms.room(crate) as inside:
-            ran = run([*words, "--jobs", str(jobs)], inside.folder)
-            # Of a library that it finds built from the same text, rt says nothing. The look at its contracts has the verdict.
-            why = verdicts.beyond(ran.text, gate.handles) if crate.is_program or "logic=" in ran.text else ""
-            why = why or (verdicts.unmet(ran.text) if crate.is_program else "")
-            # What isn't proved leaves no library, but its work: what of it holds is not done again.
-            if ran.status or why:
-                shutil.rmtree(inside.out / "rlib", ignore_errors=True)
-            gate.rooms.adopt(crate, inside)
-        gate.kept.keep(crate)
+    if gate.kept.passed(crate.name, total) and (crate.is_program or gate.kept.passed(library, built())):
+        return Done(1, says="proved before")
+    with gate.rooms.room(crate) as inside:
+        ran = run(["rt", "check" if crate.is_program else "lib", "--jobs", str(jobs)], inside.folder)
+        # Of a library that it finds built from the same text, rt says nothing. The look at its contracts has the verdict.
+        why = verdicts.beyond(ran.text, gate.handles) if crate.is_program or "logic=" in ran.text else ""
+        # What isn't proved leaves no library, but its work: what of it holds is not done again.
         if ran.status or why:
-            return failure(crate.name, f"{ran.text}{crate.name}: {why or 'not proved'}", ran.seconds)
-        if not crate.is_program:
-            gate.kept.note(library, built(), 1)
-        count, seconds = verdicts.functions(ran.text), ran.seconds
-        gate.kept.note(crate.name, total, count)
-    if crate.is_program:
-        gate.record.note(crate, "proof", count, sources_sum(crate, gate.kept.toolchain))
-    return Done(1, says="proved before" if is_known else "proved", seconds=seconds)
+            shutil.rmtree(inside.out / "rlib", ignore_errors=True)
+        gate.rooms.adopt(crate, inside)
+    gate.kept.keep(crate)
+    if ran.status or why:
+        return failure(crate.name, f"{ran.text}{crate.name}: {why or 'not proved'}", ran.seconds)
+    if not crate.is_program:
+        gate.kept.note(library, built(), 1)
+    gate.kept.note(crate.name, total, verdicts.functions(ran.text))
+    return Done(1, says="proved", seconds=ran.seconds)
 
 
 def contracts_total(gate, crate):
@@ -139,7 +133,7 @@ def contracts_total(gate, crate):
 
 
 def meet(gate, crate, jobs):
-    """Looks for contracts of a library that no call can meet, over the work of its proof, and for words of a clause that the
+    """Looks for contracts of a crate that no call can meet, over the work of its proof, and for words of a clause that the
     checker warns of."""
     name, total, seconds = f"{crate.name}: contracts", contracts_total(gate, crate), 0.0
     before, said = gate.kept.passed(name, total), gate.record.stands(crate, "contracts", total)
@@ -317,8 +311,8 @@ def proof_tasks(gate, crates):
 
 
 def contracts_tasks(gate, crates):
-    """A task for the contracts of each library, which no crate above waits for."""
-    for crate in (crate for crate in crates if not crate.is_program):
+    """A task for the contracts of each crate, which no crate above waits for."""
+    for crate in crates:
         call = lambda jobs, crate=crate: meet(gate, crate, jobs)
         yield Task(f"{crate.name}: contracts", call, (crate.name,), crate.lines() / 8)
 
