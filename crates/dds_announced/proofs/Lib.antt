@@ -1,0 +1,4 @@
+mod Beginning
+mod Onward
+mod Taking
+mod Together

@@ -1,0 +1,4 @@
+pub mod Announced
+pub mod Announcing
+pub mod Hearings
+pub mod Speaker
