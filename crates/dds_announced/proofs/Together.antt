@@ -1,4 +1,4 @@
--- Both parts stand at one list of inputs.
+-- Both parts are where one list of inputs brings them.
 use Rattle.std.proofs.Common.{◌≡◌, List, [], ◌∷◌, ◌++◌, refl, sym, ap, subst, map, ◌∙◌, append_assoc}
 use Rattle.std.specs.List.{flat_map}
 use Rattle.rtps_types.specs.declared.identity.GuidPrefix.{GuidPrefix}

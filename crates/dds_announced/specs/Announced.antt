@@ -32,13 +32,13 @@ pub record AnnouncedView (C V : Type 0) : Type 0 where
 abbrev pub seen : {C V : Type 0} → AnnouncedView C V → ParticipantView C V
 seen a = record a.run { engine = record a.run.engine { failed = a.failed } }
 
--- the participant and its announcer stand at one list of inputs
+-- the participant and its announcer are where one list of inputs brings them
 pub record StandAt {C M V : Type 0} (decoding : C → Decoding M) (inputs : List Input)
     (a : AnnouncedView C V) : Type 0 where
   pub run : engine.StandsAt decoding inputs a.run.engine
   pub announcer : announcer.StandsAt (heard_at a.run.engine.config inputs) a.announcer
 
--- The announcer heard inputs, and what is said by it was put behind what was in a list: for each
+-- The announcer heard inputs, and what is said by it was put after what was in a list: for each
 -- thing that is said its datagram.
 pub record Announces {C V : Type 0} (inputs : List Input) (old new : AnnouncedView C V)
     (before after : List Announcement) : Type 0 where
@@ -77,8 +77,8 @@ Begins {X} fault checked (Err (begin.Config f)) =
 Begins fault checked (Err begin.TooLong) = fault ≡ None
 Begins fault checked (Err begin.NoMemory) = fault ≡ None
 
--- What each call promises of both parts, as one: where they stood at one list of inputs, they stand
--- at that list with the inputs of the call.
+-- What each call promises of both parts, as one: where one list of inputs brought them, that list
+-- with the inputs of the call brings them after it.
 abbrev pub StayTogether : {C M : Type 0} → Type 0 → (C → Decoding M) → Type 0
 StayTogether {C} V decoding =
     (earlier inputs : List Input) (old new : AnnouncedView C V) (before after : List Announcement)

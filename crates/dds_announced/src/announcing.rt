@@ -1,14 +1,12 @@
 //! How a participant is to announce itself.
 
 ghost use Rattle.std.specs.Prelude.{◌≡◌};
-ghost use Rattle.rtps_announcer.specs.Participant.{is_unicast};
-ghost use Rattle.rtps_discovery.specs.Leases as leases;
 ghost use Rattle.dds_announced.specs.Announcing.{fault_of, is_bad_place, outlasts};
 
 use rtps_announcement::Presence;
-use rtps_announcer::Rules;
+use rtps_announcer::{Rules, is_unicast, lease_of};
 use rtps_discovery::ConfigFault;
-use rtps_types::{Duration, Locator, Locators};
+use rtps_types::{Locator, Locators};
 use thiserror::Error;
 
 /// The most addresses of everyone.
@@ -95,32 +93,4 @@ fn is_bad_place(place: Locator) -> bool
     ensures { result ≡ is_bad_place place }
 {
     place.port == 0 || !is_unicast(place)
-}
-
-/// Whether a locator has an address of one interface.
-fn is_unicast(locator: Locator) -> bool
-    ensures { result ≡ is_unicast locator }
-{
-    1 <= locator.address[0] && locator.address[0] <= 223
-}
-
-/// Returns a lease in milliseconds, rounded up; 0 if it is negative.
-fn milliseconds(lease: Duration) -> u64
-    ensures { result ≡ leases.milliseconds lease.seconds lease.fraction }
-{
-    if lease.seconds < 0 {
-        return 0;
-    }
-    let rounded = (u64::from(lease.fraction) * 1000 + 0xffff_ffff) / 0x1_0000_0000;
-    u64::from(lease.seconds.cast_unsigned()) * 1000 + rounded
-}
-
-/// Returns a lease in milliseconds; `None` if it never ends.
-fn lease_of(lease: Duration) -> Option<u64>
-    ensures { result ≡ leases.lease_of lease }
-{
-    if lease.seconds == 0x7fff_ffff && lease.fraction == 0xffff_ffff {
-        return None;
-    }
-    Some(milliseconds(lease))
 }

@@ -1,16 +1,16 @@
 //! A participant that announces itself and its readers (DDSI-RTPS 8.4.7, 8.5.3, 8.5.4).
 //!
 //! [`AnnouncedParticipant`] holds a participant and its announcer, and has both take the same
-//! datagrams and the same moments, so that nobody can feed one of them alone. Each call puts behind
-//! a list of the caller's what is to be sent by then: an [`Announcement`] is a datagram, and whom it
-//! is for. [`Announcing`] says how a participant is to announce itself; [`Speaker`] writes what is
-//! said as octets.
+//! datagrams and the same moments, so that nobody can feed one of them alone. Each call puts at
+//! the end of a list of the caller's what is to be sent by then: an [`Announcement`] is a datagram,
+//! and whom it is for. [`Announcing`] says how a participant is to announce itself; [`Speaker`]
+//! writes what is said as octets.
 //!
 //! ```text
 //! let mut participant = AnnouncedParticipant::new(alloc, config, announcing, Shapes)?;
 //! let mut announcements = Vec::new(alloc);
 //! participant.tick_in_order(alloc, moment, &mut given, &mut announcements)?;
-//! participant.run_in_order(&rt, alloc, &workers, &datagrams, &mut given, &mut announcements)?;
+//! participant.run_in_order(&rt, &workers, &datagrams, &mut given, &mut announcements)?;
 //! for announcement in &announcements {
 //!     // Send `announcement.octets` to the addresses of everyone, or to those of the peer.
 //! }
@@ -18,10 +18,10 @@
 //!
 //! Proved: all that the participant promises of a batch and of a tick, in its own words; that the
 //! announcer hears each datagram of the batch, in order, and that exactly what it says by then is
-//! put behind the list, as octets; that any error leaves that list as it was; and, in [`laws`], that
-//! both parts stand at one list of inputs. Nothing is written of what can't be said: of a rank that
-//! wasn't given, or of a number that no change has. Tested: octets that were written by hand, and
-//! that a participant that is found is greeted at once.
+//! put at the end of the list, as octets; that any error leaves that list as it was; and, in
+//! [`laws`], that both parts are where one list of inputs brings them. Nothing is written of what
+//! can't be said: of a rank that wasn't given, or of a number that no change has. Tested: octets
+//! that were written by hand, and that a participant that is found is greeted at once.
 //!
 //! The readers are those of the configuration: none comes or goes later.
 #![tactic(auto)]

@@ -38,8 +38,8 @@ use std::mem;
 use std::thread::Threads;
 
 /// A participant that announces itself and its readers (DDSI-RTPS 8.5.3, 8.5.4): a
-/// [`Participant`], and an [`Announcer`] that hears all that it takes. Each call puts behind a list
-/// of the caller's what is to be sent by then.
+/// [`Participant`], and an [`Announcer`] that hears all that it takes. Each call puts at the end of
+/// a list of the caller's what is to be sent by then.
 ///
 /// When a call is refused memory, in either part, both have failed: from then on each call returns
 /// [`EngineError::Failed`], and nothing is announced.
@@ -49,6 +49,7 @@ pub struct AnnouncedParticipant<C: Catalog> {
     announcer: Announcer,
     speaker: Speaker,
     everyone: Locators,
+    alloc: Global,
     /// The number of datagrams taken.
     taken: u64,
     /// Whether a call was refused memory. It is also set while one is processed, so that an error
@@ -129,6 +130,7 @@ impl<C: Catalog> AnnouncedParticipant<C> {
                 announcer,
                 speaker,
                 everyone,
+                alloc,
                 taken: 0,
                 failed: false,
             }),
@@ -153,7 +155,7 @@ impl<C: Catalog> AnnouncedParticipant<C> {
     }
 
     /// Processes the next datagrams as [`Participant::run_in_order`] does, has the announcer hear
-    /// each of them in order, and puts what is to be announced behind `announcements`.
+    /// each of them in order, and puts what is to be announced at the end of `announcements`.
     ///
     /// Any error leaves `announcements` as it was. [`EngineError::Failed`] and
     /// [`EngineError::Spent`] change nothing at all.
@@ -161,7 +163,6 @@ impl<C: Catalog> AnnouncedParticipant<C> {
     pub fn run_in_order<G: Gate, R: Threads + Sync>(
         &mut self,
         rt: &R,
-        alloc: Global,
         workers: &Workers<'_, G>,
         datagrams: &[Datagram<'_>],
         given: &mut BatchOutput<C::Value>,
@@ -214,6 +215,7 @@ impl<C: Catalog> AnnouncedParticipant<C> {
         if self.taken.saturating_add(datagrams.len() as u64) > DATAGRAM_LIMIT {
             return Err(EngineError::Spent);
         }
+        let alloc = self.alloc;
         // Failed until all is done: a return before leaves it so, and the lists empty.
         self.failed = true;
         let lent = mem::replace(given, BatchOutput::new(alloc));
@@ -233,7 +235,7 @@ impl<C: Catalog> AnnouncedParticipant<C> {
     }
 
     /// Has a moment pass as [`Participant::tick_in_order`] does, in the announcer too, and puts
-    /// what is to be announced behind `announcements`.
+    /// what is to be announced at the end of `announcements`.
     ///
     /// Any error leaves `announcements` as it was. [`EngineError::Failed`] changes nothing at all.
     #[tactic(auto, unfolding(dds_participant::specs::Kept::TakesTick, dds_participant::specs::Batch::LeavesLists))]
@@ -291,10 +293,10 @@ impl<C: Catalog> AnnouncedParticipant<C> {
         Ok(())
     }
 
-    /// Puts our farewell behind `announcements`, to everyone and to each peer. It changes nothing,
-    /// so that it may be said again. [`EngineError::Failed`] where an earlier call was refused
-    /// memory, and [`EngineError::NoMemory`] where this one is; either leaves `announcements` as it
-    /// was.
+    /// Puts our farewell at the end of `announcements`, to everyone and to each peer. It changes
+    /// nothing, so that it may be said again. [`EngineError::Failed`] where an earlier call was
+    /// refused memory, and [`EngineError::NoMemory`] where this one is; either leaves
+    /// `announcements` as it was.
     #[tactic(auto, unfolding(crate::specs::Announced::Refuses))]
     pub fn farewell(
         &self,

@@ -65,13 +65,10 @@ impl Speaker {
         }
     }
 
-    /// Appends readers, in order. The error is that of the first that can't be appended.
+    /// Appends readers, in order. The error is that of the first that can't be appended; the readers
+    /// before it stay appended.
     #[tactic(auto, unfolding(crate::specs::Speaker::own_readers))]
-    pub(crate) fn add_all(
-        &mut self,
-        alloc: Global,
-        readers: &[ReaderConfig],
-    ) -> Result<(), RecordFault>
+    pub fn add_all(&mut self, alloc: Global, readers: &[ReaderConfig]) -> Result<(), RecordFault>
         ensures added { OnOk result (self.new.readers.items ≡ self.old.readers.items
             ++ own_readers self.old.own readers.now) }
         ensures same { (self.new.own ≡ self.old.own) × (self.new.here ≡ self.old.here) }
@@ -101,7 +98,7 @@ impl Speaker {
         Ok(more)
     }
 
-    /// Returns the same, once there is room for it behind `announcements`.
+    /// Returns the same, once there is room for it at the end of `announcements`.
     pub(crate) fn write_for(
         &self,
         alloc: Global,

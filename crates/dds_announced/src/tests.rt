@@ -200,14 +200,7 @@ fn who_is_found_is_greeted_at_once(rt: HostRuntime) -> Result<(), Fail> {
         moment: 5,
         bytes: COMES,
     }];
-    participant.run_in_order(
-        &rt,
-        alloc,
-        &workers,
-        &datagrams,
-        &mut given,
-        &mut announcements,
-    )?;
+    participant.run_in_order(&rt, &workers, &datagrams, &mut given, &mut announcements)?;
     assert_eq!(rt; announcements.len(), 5);
     assert_eq!(rt; announcements[0].octets.as_slice(), HELLO);
     for announcement in &announcements[1..] {

@@ -19,7 +19,7 @@ use Rattle.rtps_announcement.specs.Datagram.{IsDestination, IsPrefix, Says, data
 submessage : ℕ → ℕ → List ℕ → List ℕ
 submessage id flags body = id ∷ flags ∷ (encoded Little 2 (length body) ++ body)
 
--- what is behind the version and the vendor
+-- what comes after the version and the vendor
 behind : GuidPrefix → Option GuidPrefix → ℕ → ℕ → List ℕ → List ℕ
 behind own to id flags body = own.0 ++ (destination to ++ submessage id flags body)
 
@@ -76,14 +76,14 @@ says own to id flags body content o t e small is =
     } in
     message_is_only (datagram own to id flags body) (our_header own) (items to (record { id = id; flags = flags; content = content })) None (rw (datagram_is own to id flags body) message)
 
--- five fields of a body behind what is before it
+-- five fields of a body after what is before it
 pub regrouped : (front a b c d e : List ℕ) → front ++ a ++ b ++ c ++ d ++ e ≡ front ++ (a ++ b ++ c ++ d ++ e)
 regrouped front a b c d e = simp append_assoc
 
--- a record of seven parameters behind what is before it
+-- a record of seven parameters after what is before it
 pub regrouped_record : (old a p q r s t u v end : List ℕ) → old ++ a ++ p ++ q ++ r ++ s ++ t ++ u ++ v ++ end ≡ old ++ (a ++ (p ++ (q ++ (r ++ (s ++ (t ++ (u ++ (v ++ end))))))))
 regrouped_record old a p q r s t u v end = simp append_assoc
 
--- eight parameters behind what is before them
+-- eight parameters after what is before them
 pub regrouped_policies : (old p q r s t u v w : List ℕ) → old ++ p ++ q ++ r ++ s ++ t ++ u ++ v ++ w ≡ old ++ (p ++ (q ++ (r ++ (s ++ (t ++ (u ++ (v ++ (w ++ []))))))))
 regrouped_policies old p q r s t u v w = simp (append_assoc, append-nil)

@@ -16,7 +16,7 @@ gap_body first last =
     subscriptions_reader.0 ++ subscriptions_writer.0 ++ encoded_sn Little (pos first)
     ++ encoded_sn Little (pos (last + 1)) ++ encoded Little 4 0
 
--- the datagram that tells a peer that the numbers from `first` to `last` don't concern it
+-- the datagram that reports to a peer that the numbers from `first` to `last` don't concern it
 unfoldable pub gap_octets : GuidPrefix → GuidPrefix → ℕ → ℕ → List ℕ
 gap_octets own to first last = datagram own (Some to) 0x08 1 (gap_body first last)
 

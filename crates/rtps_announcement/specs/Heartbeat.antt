@@ -14,8 +14,8 @@ heartbeat_body last count =
     subscriptions_reader.0 ++ subscriptions_writer.0 ++ encoded_sn Little (pos 1)
     ++ encoded_sn Little (pos last) ++ encoded Little 4 count
 
--- the datagram that tells a peer which numbers there are, and asks it for an answer: it has neither
--- flag F nor flag L
+-- the datagram that reports to a peer which numbers there are, and asks it for an answer: it has
+-- neither flag F nor flag L
 unfoldable pub heartbeat_octets : GuidPrefix → GuidPrefix → ℕ → ℕ → List ℕ
 heartbeat_octets own to last count = datagram own (Some to) 0x07 1 (heartbeat_body last count)
 

@@ -12,8 +12,8 @@ use rtps_types::{GuidPrefix, Number, Octets};
 use rtps_wire::kinds::GAP;
 use std::alloc::{AllocError, Allocator};
 
-/// Returns the datagram by which the announcer of readers tells the participant `to` that the
-/// changes from `first` to `last` don't concern it (DDSI-RTPS 8.3.7.4). Nothing is named where
+/// Returns the datagram by which the announcer of readers reports to the participant `to` that
+/// the changes from `first` to `last` don't concern it (DDSI-RTPS 8.3.7.4). Nothing is named where
 /// `last` is below `first`. An error is a refused growth.
 pub fn write_gap<A: Allocator>(
     alloc: A,

@@ -11,8 +11,8 @@ use rtps_types::{GuidPrefix, Octets};
 use rtps_wire::kinds::HEARTBEAT;
 use std::alloc::{AllocError, Allocator};
 
-/// Returns the datagram by which the announcer of readers tells the participant `to` that it has
-/// the changes from 1 to `last`, none where `last` is 0, and asks for an ACKNACK (DDSI-RTPS
+/// Returns the datagram by which the announcer of readers reports to the participant `to` that it
+/// has the changes from 1 to `last`, none where `last` is 0, and asks for an ACKNACK (DDSI-RTPS
 /// 8.3.7.5). `count` rises from one HEARTBEAT to the next. An error is a refused growth.
 pub fn write_heartbeat<A: Allocator>(
     alloc: A,

@@ -59,8 +59,8 @@ pub fn write_participant<A: Allocator>(
     Ok(Octets::new(octets))
 }
 
-/// Returns the datagram by which a participant tells the participant `to`, or everyone, that it
-/// leaves (DDSI-RTPS 8.5.3.3). An error is a refused growth.
+/// Returns the datagram by which a participant reports to the participant `to`, or to everyone,
+/// that it leaves (DDSI-RTPS 8.5.3.3). An error is a refused growth.
 #[tactic(auto, unfolding(crate::specs::Participant::participant_gone_octets))]
 pub fn write_participant_gone<A: Allocator>(
     alloc: A,

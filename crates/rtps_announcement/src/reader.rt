@@ -33,8 +33,8 @@ pub fn write_reader<A: Allocator, B: Allocator>(
     Ok(Octets::new(octets))
 }
 
-/// Returns the datagram of change `number`, by which a participant tells the participant `to` that
-/// its reader with this id has gone (DDSI-RTPS 8.5.4.4). An error is a refused growth.
+/// Returns the datagram of change `number`, by which a participant reports to the participant `to`
+/// that its reader with this id has gone (DDSI-RTPS 8.5.4.4). An error is a refused growth.
 pub fn write_reader_gone<A: Allocator>(
     alloc: A,
     own: GuidPrefix,

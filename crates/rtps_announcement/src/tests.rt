@@ -18,7 +18,7 @@ use std::test::Fail;
 /// Our participant, with twelve different octets.
 const OWN: GuidPrefix = GuidPrefix([1, 2, 3, 4, 5, 6, 7, 8, 9, 10, 11, 12]);
 
-/// The participant that is told.
+/// The participant to which it is sent.
 const PEER: GuidPrefix = GuidPrefix([0x0a; 12]);
 
 /// The reader that is announced.
@@ -27,7 +27,7 @@ const READER: EntityId = EntityId([0, 0, 1, 7]);
 /// The header of our messages.
 const HEADER: &str = "52545053 02050000 0102030405060708090a0b0c ";
 
-/// The header, and the participant that is told.
+/// The header, and the participant to which it is sent.
 const FRONT: &str = "52545053 02050000 0102030405060708090a0b0c \
     0e010c00 0a0a0a0a0a0a0a0a0a0a0a0a ";
 

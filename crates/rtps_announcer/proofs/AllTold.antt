@@ -1,4 +1,4 @@
--- Each peer was told of each change that concerns it.
+-- Each peer was sent each change that concerns it.
 use Rattle.std.proofs.Common.{◌≡◌, ℕ, ◌+◌, Bool, true, false, List, [], ◌∷◌, ◌++◌, length, map, filter, reverse, Option, Some, None, refl, sym, ap, ◌∙◌, subst, arith, append_assoc, slice_set}
 use Rattle.std.specs.Prelude.{cond, nat_lt, if◌then◌else◌, slice_get}
 use Rattle.std.specs.List.{flat_map, list_any}
@@ -176,7 +176,7 @@ news_told gone later cs c said more f keeps stays (e ∷ es) told reached = (
 pub told_since : (r : Rules) (now : Now) (p : Peer) → (told_more r now p).since ≡ p.since
 told_since r now p = refl
 
--- all peers are told a change more, in a state to which it is added
+-- one more change is sent to all peers, in a state to which it is added
 all_are_told : (r : Rules) (s : State) (later : List Bool) (c : Change) (said : GuidPrefix → List Said) → ((rank : ℕ) → has_gone later rank ≡ false → has_gone s.gone rank ≡ false)
     → EachIsTold s.gone s.changes said s.peers
     → EachIsTold later (s.changes ++ c ∷ []) (λ q. said q ++ said_to q (all_told r c (record s { changes = s.changes ++ c ∷ []; gone = later })).sends)
@@ -200,7 +200,7 @@ if_since false n x y hx hy = hy
 pub reminded_since : (r : Rules) (now : Now) (p : Peer) → (reminded r now p).since ≡ p.since
 reminded_since r now p = if_since (is_late r now p) p.since _ p refl refl
 
--- what is said at this hearing goes behind what was said before
+-- what is said at this hearing comes after what was said before
 abbrev behind : (GuidPrefix → List Said) → List Sending → GuidPrefix → List Said
 behind said sends q = said q ++ said_to q sends
 
@@ -243,7 +243,7 @@ none_found r s p f said none told =
     said_each s.gone s.changes said (λ q. said_to q (step r (Comes p f) s).sends) (once_come r s p f said)
     (λ q. ap (λ (b : Bool). said_then b (said q) (said_to q (step r (Comes p f) s).sends)) (none q)) s.peers told
 
--- where it is found, it is told all
+-- where it is found, all is sent to it
 one_found : (r : Rules) (s : State) (p : GuidPrefix) (f : Facts) (said : GuidPrefix → List Said) (left : Peers) → lookup (same_prefix p) s.peers ≡ None → f.hears ≡ true → room r.peers s.peers ≡ Some left
     → Told_by said s → Told_by (once_come r s p f said) (found r p f s (Some left)).state
 one_found r s p f said left none hears is told =

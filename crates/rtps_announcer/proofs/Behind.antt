@@ -28,7 +28,7 @@ heard_on own header before (o ∷ os) =
     ap (λ (l : List Hearing). option_to_list (hearing_in (context_of own header before) o) ++ l)
     (ap (λ c. heard_left c os) (sym (moves_on own header before o.content)) ∙ heard_on own header (o.content ∷ before) os)
 
--- the same of the octets behind a header, as they are cut off
+-- the same of the octets after a header, as they are cut off
 pub heard_cut : (own header : GuidPrefix) (octets : List ℕ) → heard_left (context_of own header []) (submessages (take (length octets - 20) (drop 20 octets))) ≡ heard_behind own header [] (submessages (drop 20 octets))
 heard_cut own header octets =
     ap (λ (o : List ℕ). heard_left (context_of own header []) (submessages o)) (take_rest octets 20)

@@ -27,7 +27,7 @@ wanted_more most last len n old new left rest all few low pushed cut before =
     ∙ ap (λ (l : List ℕ). old ++ take (most - len) l) (sym (kept last n rest low) ∙ ap (filter (λ (x : ℕ). nat_le x last)) (sym cut))
     ∙ before
 
--- of what was cut, and more behind it, the first are those of all
+-- of what was cut, and more after it, the first are those of all
 pub cut_more : {A : Type 0} (n : ℕ) (xs ys : List A) → take n (take n xs ++ ys) ≡ take n (xs ++ ys)
 cut_more zero xs ys = refl
 cut_more (suc n) [] ys = refl

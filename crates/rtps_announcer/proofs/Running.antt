@@ -9,7 +9,7 @@ pub state_more : (r : Rules) (s : State) (xs ys : List Hearing) → state_run r 
 state_more r s [] ys = refl
 state_more r s (x ∷ xs) ys = state_more r (step r x s).state xs ys
 
--- an announcer that stands at some hearings stands at one more after its step
+-- an announcer that is where some hearings bring it is where one more brings it after its step
 pub stood : (a : AnnouncerView) (h : Hearing) (hs : List Hearing) (s : State) → StandsAt hs a → s ≡ (step a.rules h a.state).state
     → StandsAt (hs ++ h ∷ []) (record a { failed = false; state = s })
 stood a h hs s at is = record {

@@ -1,4 +1,4 @@
--- What was said stays said, and one change more is told.
+-- What was said stays said, and one more change is sent.
 use Rattle.std.proofs.Common.{◌≡◌, ℕ, zero, suc, ◌+◌, Bool, true, false, List, [], ◌∷◌, ◌++◌, length, slice_set, refl, ap, ◌∙◌, subst, arith, eq-eqb}
 use Rattle.std.specs.Prelude.{◌||◌, ◌==◌, not, if◌then◌else◌}
 use Rattle.std.specs.List.{list_any}
@@ -87,7 +87,7 @@ telling_tells gone since n (c ∷ cs) = (
   said_before gone since (told_as gone since n c) (telling gone since (n + 1) cs) (n + 1) cs (telling_tells gone since (n + 1) cs),
 )
 
--- who is found is told all
+-- all is sent to who is found
 pub welcome_tells : (s : State) → AreTold s.gone (length s.changes) (welcome s) 1 s.changes
 welcome_tells s =
     let all = telling s.gone (length s.changes) 1 s.changes in
@@ -123,7 +123,7 @@ concerned : (gone later : List Bool) (since n : ℕ) (c : Change) → ((rank : �
 concerned gone later since n (Asks rank) stays h = rw (stays rank (not_true (has_gone later rank) h)) refl
 concerned gone later since n (Ends rank) stays h = h
 
--- one change more is told
+-- one more change is sent
 pub told_one_more : (gone later : List Bool) (since : ℕ) (said : List Said) (c : Change) (n : ℕ) (cs : List Change) → ((rank : ℕ) → has_gone later rank ≡ false → has_gone gone rank ≡ false)
     → AreTold gone since said n cs → list_any (is_told (n + length cs) c) said ≡ true → AreTold later since said n (cs ++ c ∷ [])
 told_one_more gone later since said c n [] stays told last = (λ h. subst (λ k. list_any (is_told k c) said ≡ true) (omega arith) last, tt)

@@ -174,7 +174,7 @@ leaves p s = quiet (record s { peers = remove_entry (same_prefix p) s.peers })
 
 -- ---- a peer answers
 
--- what was asked for, and a HEARTBEAT behind it; that alone where an answer is wanted
+-- what was asked for, and a HEARTBEAT after it; that alone where an answer is wanted
 abbrev pub answering : Said → List Said → Bool → List Said
 answering beat [] true = []
 answering beat [] false = beat ∷ []
@@ -218,7 +218,7 @@ acks r p a s = acks_by r p a s (answer_at r p a s)
 
 -- ---- our readers come and go
 
--- the last change, which is told to every peer
+-- the last change, which is sent to every peer
 abbrev pub news_to : Now → Change → GuidPrefix × Peer → List Sending
 news_to now c e = to_one e.0 e.1.to (Told now.last c ∷ beat_of now ∷ [])
 
@@ -226,7 +226,7 @@ abbrev pub is_one : Peers → Bool
 is_one [] = false
 is_one (e ∷ es) = true
 
--- there is one change more, and all are told
+-- there is one more change, and it was sent to all
 abbrev pub all_told : Rules → Change → State → Step
 all_told r c s = record {
   sends = flat_map (news_to (now_of s) c) s.peers;

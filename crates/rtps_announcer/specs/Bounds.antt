@@ -7,8 +7,8 @@ use Rattle.rtps_announcer.specs.Announcing.{State, step}
 use Rattle.rtps_announcer.specs.Told.{state_after}
 
 -- to everyone at most one announcement, and one HEARTBEAT to each peer; to who is found all
--- changes, a farewell, a greeting and a HEARTBEAT; to who asks so many numbers and a HEARTBEAT; of
--- a change that one and a HEARTBEAT to each peer
+-- changes, a farewell, a greeting and a HEARTBEAT; to who asks at most `again` numbers and a
+-- HEARTBEAT; of a change that one and a HEARTBEAT to each peer
 abbrev pub most_sent : Rules → Hearing → State → ℕ
 most_sent r (Passes m) s = 1 + length s.peers
 most_sent r (Comes p f) s = 3 + length s.changes

@@ -86,7 +86,7 @@ EachIsReminded r s sends (e ∷ es) =
     × EachIsReminded r s sends es
 
 -- At a moment a HEARTBEAT goes to each peer that stays, hasn't acknowledged all, has reminders
--- left, and was told or reminded long enough ago.
+-- left, and was sent the last change or reminder long enough ago.
 abbrev pub Reminded : Type 0
 Reminded = (r : Rules) (m : ℕ) (s : State)
     → EachIsReminded r (at_moment m s) (passes r m s).sends (at_moment m s).peers

@@ -55,7 +55,7 @@ is_heard c = bytes_eq c.destination.0 c.own.0 && not (bytes_eq c.source.0 c.own.
 abbrev pub hearing_in : Context → Opened → Option Hearing
 hearing_in c o = if is_heard c then heard_by c o.raw o.content else None
 
--- what is heard of submessages behind others, the nearest first
+-- what is heard of submessages after others, the nearest first
 abbrev pub heard_behind :
     GuidPrefix → GuidPrefix → List PartsView → List Opened → List Hearing
 heard_behind own header before [] = []

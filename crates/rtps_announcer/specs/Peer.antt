@@ -29,8 +29,8 @@ is_past moment heard (Some lease) = nat_lt lease (moment - heard)
 abbrev pub has_lapsed : ℕ → Peer → Bool
 has_lapsed moment p = is_past moment p.heard p.lease
 
--- It has to be reminded: it hasn't acknowledged all, it has reminders left, and it was told or
--- reminded long enough ago.
+-- It has to be reminded: it hasn't acknowledged all, it has reminders left, and the last
+-- change or reminder was sent to it long enough ago.
 abbrev pub is_late : Rules → Now → Peer → Bool
 is_late r now p =
     nat_le p.base now.last && (nat_lt 0 p.left && nat_le r.reminder (now.moment - p.told))
@@ -40,7 +40,7 @@ abbrev pub reminded : Rules → Now → Peer → Peer
 reminded r now p =
     if is_late r now p then record p { told = now.moment; left = p.left - 1 } else p
 
--- once it was told a change more
+-- once one more change was sent to it
 abbrev pub told_more : Rules → Now → Peer → Peer
 told_more r now p = record p { told = now.moment; left = r.reminders }
 

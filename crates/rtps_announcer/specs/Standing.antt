@@ -13,12 +13,12 @@ pub record AnnouncerView : Type 0 where
   pub failed : Bool
   pub state : State
 
--- an announcer stands where these hearings bring it
+-- an announcer is where these hearings bring it
 pub record StandsAt (hs : List Hearing) (a : AnnouncerView) : Type 0 where
   pub state : a.state ≡ state_run a.rules first hs
   pub failed : a.failed ≡ false
 
--- an announcer took what was heard, and what is said by it was put behind what was in a list
+-- an announcer took what was heard, and what is said by it was put after what was in a list
 pub record Heard (h : Hearing) (old new : AnnouncerView) (before after : List Sending) :
     Type 0 where
   pub state : new.state ≡ (step old.rules h old.state).state

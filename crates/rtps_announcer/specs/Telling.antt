@@ -1,4 +1,4 @@
--- How the changes of our announcer of readers are told: as changes, or as irrelevant numbers
+-- How the changes of our announcer of readers are sent: as changes, or as irrelevant numbers
 -- (DDSI-RTPS 8.3.7.4, 8.5.4).
 use Rattle.std.specs.Prelude.{ℕ, ◌+◌, ◌-◌, ◌==◌, nat_le, nat_lt, List, [], ◌∷◌, filter, map, slice_get, take, Bool, false, not, Option, Some, None, if◌then◌else◌}
 use Rattle.rtps_announcer.specs.Ack.{AckView}
@@ -26,7 +26,7 @@ concerns gone since n (Ends rank) = nat_lt since n
 abbrev pub told_as : List Bool → ℕ → ℕ → Change → Said
 told_as gone since n c = if concerns gone since n c then Told n c else Void n n
 
--- irrelevant numbers, and others right behind them, are said at once
+-- irrelevant numbers, and others right after them, are said at once
 abbrev pub with_void : ℕ → ℕ → List Said → List Said
 with_void first last [] = Void first last ∷ []
 with_void first last (Bye ∷ more) = Void first last ∷ Bye ∷ more

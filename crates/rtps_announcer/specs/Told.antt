@@ -1,4 +1,4 @@
--- What each peer was told, over all that was heard.
+-- What each peer was sent, over all that was heard.
 use Rattle.std.specs.Prelude.{◌≡◌, ℕ, ◌+◌, ◌==◌, List, [], ◌∷◌, ◌++◌, reverse, Bool, true, false, ◌&&◌, is_none, is_some, if◌then◌else◌}
 use Rattle.std.specs.List.{list_any}
 use Rattle.std.specs.Map.{lookup}
@@ -76,14 +76,14 @@ AreTold gone since said n (c ∷ cs) =
     (concerns gone since n c ≡ true → list_any (is_told n c) said ≡ true)
     × AreTold gone since said (n + 1) cs
 
--- each peer was told of each change that concerns it
+-- each peer was sent each change that concerns it
 abbrev pub EachIsTold :
     List Bool → List Change → (GuidPrefix → List Said) → Peers → Type 0
 EachIsTold gone changes said [] = Unit {0}
 EachIsTold gone changes said (e ∷ es) =
     AreTold gone e.1.since (said e.0) 1 changes × EachIsTold gone changes said es
 
--- After any hearings each peer that is there was told of each change that concerns it, since it was
+-- After any hearings each peer that is there was sent each change that concerns it, since it was
 -- found.
 pub record AllTold : Type 0 where
   pub told : (r : Rules) (hs : List Hearing) → EachIsTold (state_after r hs).gone

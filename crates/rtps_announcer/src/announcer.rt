@@ -143,8 +143,8 @@ impl<A: Allocator + Copy> Announcer<A> {
         self.hear(alloc, &Hearing::Passes(moment), sends)
     }
 
-    /// Adds a reader of ours, and tells every peer. Returns its rank, which is the number of ranks
-    /// that were given before: so a participant counts them too.
+    /// Adds a reader of ours, and reports it to every peer. Returns its rank, which is the number
+    /// of ranks that were given before: so a participant counts them too.
     pub fn add_reader(&mut self, alloc: A, sends: &mut Vec<Sending, A>) -> Result<u32, AllocError>
         ensures rank { IfOk result (λ rank. rank ≡ length self.old.state.gone) }
         ensures heard { OnOk result
@@ -168,8 +168,8 @@ impl<A: Allocator + Copy> Announcer<A> {
         }
     }
 
-    /// Removes our reader of a rank, and tells every peer. Nothing is said and nothing changes
-    /// where the rank wasn't given, or its reader has gone.
+    /// Removes our reader of a rank, and reports its end to every peer. Nothing is said and nothing
+    /// changes where the rank wasn't given, or its reader has gone.
     pub fn remove_reader(
         &mut self,
         alloc: A,

@@ -20,7 +20,7 @@ use std::alloc::{AllocError, Allocator};
 /// Our reader of participants (DDSI-RTPS 9.3.1.3).
 const SPDP_DETECTOR: EntityId = EntityId([0x00, 0x01, 0x00, 0xc7]);
 
-/// The destination that stands for every participant (DDSI-RTPS 8.3.7.7).
+/// The destination that means every participant (DDSI-RTPS 8.3.7.7).
 const EVERYONE: GuidPrefix = GuidPrefix([0; 12]);
 
 /// The number of octets of a message header (DDSI-RTPS 9.4.4).

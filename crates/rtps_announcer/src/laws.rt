@@ -17,7 +17,7 @@ pub fn read_alike()
     ensures { ReadAlike }
 {}
 
-/// After whatever was heard, each participant that was found and stays was told of each change that
+/// After whatever was heard, each participant that was found and stays was sent each change that
 /// concerns it: of each reader of ours that is there, and of the end of each that it may have heard
 /// of.
 pub fn all_told()

@@ -1,4 +1,4 @@
-//! How a participant makes itself and its readers known: who is told what, and when (DDSI-RTPS
+//! How a participant makes itself and its readers known: what is sent to whom, and when (DDSI-RTPS
 //! 8.4.7, 8.4.9, 8.5.3, 8.5.4).
 //!
 //! [`hearings`] finds what is heard of a datagram: what a participant announces of itself (SPDP),
@@ -27,8 +27,8 @@
 //! Proved of each call is what it sends and what the announcer is after it, as
 //! `specs/Announcing.antt` defines them, and that a call that is refused memory leaves the list as
 //! it was. Proved too is, in [`laws`], what follows: however what is heard is cut into batches, the
-//! same is sent; each participant that was found and stays was told of each change that concerns
-//! it, and when it is found or asks of no other; it is reminded; and nobody makes us send or keep
+//! same is sent; each participant that was found and stays was sent each change that concerns
+//! it, and no other when it is found or asks; it is reminded; and nobody makes us send or keep
 //! without end. Only tested is that calls succeed where there is memory, and that the numbers of
 //! the definitions are those of the standard, by octets that are written by hand.
 //!
@@ -59,5 +59,6 @@ pub use announcer::Announcer;
 pub use context::hearings;
 pub use hearing::{Facts, Hearing};
 pub use locators::PeerLocators;
+pub use participant::{is_unicast, lease_of};
 pub use rules::Rules;
 pub use said::{Change, Destination, Said, Sending};

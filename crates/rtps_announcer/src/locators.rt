@@ -44,7 +44,7 @@ impl PeerLocators {
         }
     }
 
-    /// Adds a locator behind the others. The fifth one, and any after it, is left out.
+    /// Adds a locator after the others. The fifth one, and any after it, is left out.
     pub fn add(&mut self, locator: Locator)
         ensures { self.new ≡ take 4 (self.old ++ locator ∷ []) }
     {

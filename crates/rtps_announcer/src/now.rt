@@ -1,11 +1,11 @@
-//! What every peer is told by.
+//! What is the same for every peer when something is said.
 
 ghost use Rattle.std.specs.Prelude.{◌≡◌};
 ghost use Rattle.rtps_announcer.specs.Said.{beat_of};
 
 use crate::said::Said;
 
-/// What stands when something is said: the moment, the last number, and the count of the next
+/// What is so when something is said: the moment, the last number, and the count of the next
 /// HEARTBEAT.
 #[derive(Clone, Copy)]
 pub(crate) struct Now {

@@ -33,8 +33,9 @@ const DEFAULT_LEASE: Duration = Duration {
 /// The bit of the reader of readers in a builtin endpoint set (DDSI-RTPS 9.3.2.12).
 const SUBSCRIPTIONS_DETECTOR: u32 = 5;
 
-/// Whether a locator has an address of one interface.
-fn is_unicast(locator: Locator) -> bool
+/// Whether a locator has an address of one interface: not of a multicast group, not the broadcast
+/// address, and not 0.0.0.0.
+pub fn is_unicast(locator: Locator) -> bool
     ensures { result ≡ heard.is_unicast locator }
 {
     1 <= locator.address[0] && locator.address[0] <= 223
@@ -65,8 +66,9 @@ fn milliseconds(lease: Duration) -> u64
     u64::from(lease.seconds.cast_unsigned()) * 1000 + rounded
 }
 
-/// Returns a lease in milliseconds; `None` if it never ends.
-fn lease_of(lease: Duration) -> Option<u64>
+/// Returns a lease in milliseconds, rounded up, and 0 if it is negative; `None` if it never ends
+/// (DDSI-RTPS 8.5.3.2).
+pub fn lease_of(lease: Duration) -> Option<u64>
     ensures { result ≡ leases.lease_of lease }
 {
     if lease.seconds == 0x7fff_ffff && lease.fraction == 0xffff_ffff {
@@ -97,7 +99,7 @@ fn facts_of(settings: Settings<'_>) -> Facts
     }
 }
 
-/// Returns the parameter list of a payload, behind four octets of encapsulation; `None` if it is
+/// Returns the parameter list of a payload, after four octets of encapsulation; `None` if it is
 /// not one, or is malformed.
 fn list_in(payload: &[u8]) -> Option<ParamList<'_>>
     ensures { result ≡ said.list_in payload.now }

@@ -12,7 +12,7 @@ use crate::rules::Rules;
 /// A participant that was found, has a reader of readers, and stays.
 #[derive(Drop)]
 pub(crate) struct Peer {
-    /// Where it is told.
+    /// Where it is sent to.
     pub to: PeerLocators,
     /// How many milliseconds it may keep silent; `None` if its lease never ends.
     pub lease: Option<u64>,
@@ -24,7 +24,8 @@ pub(crate) struct Peer {
     pub base: u64,
     /// The count of the last ACKNACK that was taken.
     pub counted: Option<i32>,
-    /// The moment at which it was last told or reminded, or last acknowledged something.
+    /// The moment at which the last change or reminder was sent to it, or at which it last
+    /// acknowledged something.
     pub told: u64,
     /// How many HEARTBEATs it gets until it gives a sign of life.
     pub left: u32,
@@ -76,7 +77,7 @@ impl Peer {
         }
     }
 
-    /// Notes that it is told a change more.
+    /// Notes that one more change is sent to it.
     pub fn tell(&mut self, rules: Rules, now: Now)
         ensures { self.new ≡ peer.told_more rules now self.old }
     {

@@ -84,7 +84,7 @@ pub(crate) fn send_news<A: Allocator>(
     Ok(())
 }
 
-/// Notes that every peer was told a change more.
+/// Notes that one more change was sent to every peer.
 pub(crate) fn note_news<A: Allocator>(
     peers: &mut BTreeMap<GuidPrefix, Peer, A>,
     rules: Rules,

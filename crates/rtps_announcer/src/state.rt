@@ -105,7 +105,7 @@ impl<A: Allocator + Copy> AnnouncerState<A> {
         }
     }
 
-    /// What every peer is told by now.
+    /// What is the same for every peer by now.
     fn now(&self) -> Now
         ensures { result ≡ announcing.now_of self.now }
     {
@@ -116,7 +116,7 @@ impl<A: Allocator + Copy> AnnouncerState<A> {
         }
     }
 
-    /// What there is to tell.
+    /// What there is to report.
     fn record(&self) -> Record<'_>
         ensures changes { result.changes.now ≡ self.now.changes }
         ensures gone { result.gone.now ≡ self.now.gone }
@@ -239,7 +239,7 @@ impl<A: Allocator + Copy> AnnouncerState<A> {
         self.peers.remove(&prefix);
     }
 
-    /// Returns what a peer is answered: the numbers that it asks for, and a HEARTBEAT behind them;
+    /// Returns what a peer is answered: the numbers that it asks for, and a HEARTBEAT after them;
     /// that alone where it asks for none and wants an answer.
     fn reply(
         &self,
@@ -396,7 +396,7 @@ impl<A: Allocator + Copy> AnnouncerState<A> {
         }
     }
 
-    /// Takes these hearings, one after the other, and puts what is sent behind `sends`.
+    /// Takes these hearings, one after the other, and puts what is sent at the end of `sends`.
     fn run(
         &mut self,
         alloc: A,

@@ -12,7 +12,7 @@ use crate::said::{Change, Said, Sending};
 use rtps_types::GuidPrefix;
 use std::alloc::{AllocError, Allocator};
 
-/// What there is to tell: all changes, and for each rank whether its reader has gone.
+/// What there is to report: all changes, and for each rank whether its reader has gone.
 #[derive(Clone, Copy)]
 pub(crate) struct Record<'a> {
     pub changes: &'a [Change],
@@ -85,7 +85,7 @@ fn hold<A: Allocator>(
     Ok(Some((first, last)))
 }
 
-/// Says something else, behind the irrelevant numbers that were held back.
+/// Says something else, after the irrelevant numbers that were held back.
 fn say<A: Allocator>(said: &mut Vec<Said, A>, held: Held, next: Said) -> Result<Held, AllocError>
     ensures { IfOk result (λ left. (more : List Said)
         → said.new.items ++ telling.merged (held_back left ++ more)

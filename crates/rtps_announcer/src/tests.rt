@@ -18,7 +18,7 @@ const ONE: GuidPrefix = GuidPrefix([1; 12]);
 
 const TWO: GuidPrefix = GuidPrefix([2; 12]);
 
-/// Where each of the others is told.
+/// Where each of the others is sent to.
 const HERE: Locator = Locator {
     port: 7410,
     address: [10, 9, 0, 2],
@@ -91,7 +91,7 @@ impl Desk {
         Ok(desk)
     }
 
-    /// What is said by a hearing alone stands in the list.
+    /// What is said by a hearing alone is in the list.
     fn hear(&mut self, alloc: Global, hearing: &Hearing) -> Result<(), AllocError> {
         self.sends.clear();
         self.announcer.hear(alloc, hearing, &mut self.sends)

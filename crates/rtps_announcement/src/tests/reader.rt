@@ -74,7 +74,7 @@ fn a_reader_that_has_gone(rt: HostRuntime) -> Result<(), Fail> {
     Ok(())
 }
 
-/// Returns a text of so many octets.
+/// Returns a text of `count` octets.
 fn text_of(alloc: Global, count: usize) -> Result<String, Fail> {
     let mut text = String::new(alloc);
     for _ in 0..count {
@@ -83,7 +83,7 @@ fn text_of(alloc: Global, count: usize) -> Result<String, Fail> {
     Ok(text)
 }
 
-/// Returns the length of the record of a reader with a topic of so many octets, or its fault.
+/// Returns the length of the record of a reader with a topic of `count` octets, or its fault.
 fn with_topic(alloc: Global, count: usize) -> Result<Result<usize, RecordFault>, Fail> {
     let mut reader = ReaderConfig::new(alloc, READER, "", "T")?;
     reader.topic = text_of(alloc, count)?;

@@ -11,7 +11,7 @@ fn what_is_asked_for_is_said_again(rt: HostRuntime) -> Result<(), Fail> {
     desk.add_reader(rt.alloc())?;
     desk.remove_reader(rt.alloc(), 0)?;
     desk.hear(rt.alloc(), &Hearing::Acks(ONE, asks(1, 7).ok_or("a base")?))?;
-    // Reader 0 went, and the peer was told that it came: so it is told that it went.
+    // Reader 0 went, and its coming was reported to the peer: so its end is reported too.
     assert!(rt;
         desk.says(&[
             Said::Void(1, 1),
