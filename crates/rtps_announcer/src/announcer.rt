@@ -44,6 +44,22 @@ impl<A: Allocator> Model for Announcer<A> {
     } };
 }
 
+/// A copy hears and says for itself: so what is said by something can be known before it is heard.
+impl<A: Allocator + Copy> Clone for Announcer<A> {
+    ghost use Rattle.std.specs.Prelude.{◌≡◌};
+
+    ghost is_clone = { λ a b. b ≡ a };
+
+    fn clone(&self) -> Result<Announcer<A>, AllocError> {
+        Ok(Announcer {
+            own: self.own,
+            rules: self.rules,
+            failed: self.failed,
+            state: self.state.clone()?,
+        })
+    }
+}
+
 impl<A: Allocator + Copy> Announcer<A> {
     /// Returns the announcer of the participant `own`, which has heard nothing and has no readers.
     /// It takes no memory.

@@ -8,6 +8,7 @@ use crate::hearing::Facts;
 use crate::locators::PeerLocators;
 use crate::now::Now;
 use crate::rules::Rules;
+use std::alloc::AllocError;
 
 /// A participant that was found, has a reader of readers, and stays.
 #[derive(Drop)]
@@ -29,6 +30,25 @@ pub(crate) struct Peer {
     pub told: u64,
     /// How many HEARTBEATs it gets until it gives a sign of life.
     pub left: u32,
+}
+
+impl Clone for Peer {
+    ghost use Rattle.std.specs.Prelude.{◌≡◌};
+
+    ghost is_clone = { λ p q. q ≡ p };
+
+    fn clone(&self) -> Result<Peer, AllocError> {
+        Ok(Peer {
+            to: self.to.copied(),
+            lease: self.lease,
+            heard: self.heard,
+            since: self.since,
+            base: self.base,
+            counted: self.counted,
+            told: self.told,
+            left: self.left,
+        })
+    }
 }
 
 impl Peer {

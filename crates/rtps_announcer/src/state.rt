@@ -55,6 +55,23 @@ impl<A: Allocator> Model for AnnouncerState<A> {
     } };
 }
 
+impl<A: Allocator + Copy> Clone for AnnouncerState<A> {
+    ghost use Rattle.std.specs.Prelude.{◌≡◌};
+
+    ghost is_clone = { λ s t. t ≡ s };
+
+    fn clone(&self) -> Result<AnnouncerState<A>, AllocError> {
+        Ok(AnnouncerState {
+            moment: self.moment,
+            announced: self.announced,
+            count: self.count,
+            changes: self.changes.clone()?,
+            gone: self.gone.clone()?,
+            peers: self.peers.clone()?,
+        })
+    }
+}
+
 /// Whether the participant has to be announced to everyone.
 fn is_due(period: u64, moment: u64, announced: Option<u64>) -> bool
     ensures { result ≡ announcing.is_due period moment announced }

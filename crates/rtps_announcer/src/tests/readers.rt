@@ -61,3 +61,18 @@ fn neighbouring_irrelevant_numbers_are_one_gap(rt: HostRuntime) -> Result<(), Fa
     );
     Ok(())
 }
+
+/// A copy says the same, and the one that it was made of hears nothing of it.
+#[test]
+fn a_copy_hears_for_itself(rt: HostRuntime) -> Result<(), Fail> {
+    let alloc = rt.alloc();
+    let mut desk = Desk::with_peer(alloc)?;
+    desk.add_reader(alloc)?;
+    let mut copy = desk.announcer.clone()?;
+    let mut sends = Vec::new(alloc);
+    assert_eq!(rt; copy.add_reader(alloc, &mut sends)?, 1);
+    assert_eq!(rt; desk.add_reader(alloc)?, 1);
+    assert_eq!(rt; sends.len(), 2);
+    assert!(rt; desk.says(&[sends[0].said, sends[1].said]));
+    Ok(())
+}
