@@ -1,6 +1,6 @@
 -- The batches that sockets receive.
 use Rattle.std.proofs.Common.{◌≡◌, ℕ, List, [], ◌∷◌, ◌++◌, Option, Bool, true, false, arith, map, refl, subst, sym, ap, ◌∙◌}
-use Rattle.std.specs.Prelude.{◌≢◌, ◌<◌, length, nat_eq, if◌then◌else◌, IfOk, Result, Ok, Err}
+use Rattle.std.specs.Prelude.{◌<◌, length, nat_eq, if◌then◌else◌, IfOk, Result, Ok, Err}
 use Rattle.std.specs.declared.io.ErrorKind.{ErrorKind}
 use Rattle.rtps_records.specs.RecordFile.{Datagram, Record}
 use Rattle.rtps_records.specs.Traffic.{Exhausted, Grows, Passed, ReceivesAll, Traffic, Waited, last_call, receipts, received_in}

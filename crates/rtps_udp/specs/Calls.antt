@@ -28,6 +28,9 @@ pub data Call : Type 0 where
   FailsToWait : ErrorKind → Call
   -- these octets were given to the socket for this purpose, for a locator; the kind of the error
   Sends : Purpose → Locator → List ℕ → Option ErrorKind → Call
+  -- these octets, an announcement, were given to the socket for discovery, for a locator; the kind
+  -- of the error
+  Announces : Locator → List ℕ → Option ErrorKind → Call
   -- these octets were not sent to a locator, by sockets that are bound to this address
   Withholds : Ipv4Addr → Locator → List ℕ → Call
 
@@ -50,7 +53,7 @@ turns_of nanos = if nat_eq nanos 100_000_000 then Waited ∷ [] else []
 
 -- What a call is to a network whose moments are counted from a start. All answers are sent from the
 -- socket for discovery. An answer that is withheld is lost, as any datagram may be, and none is
--- withheld from a locator that is answered.
+-- withheld from a locator that is answered. An announcement is no answer.
 abbrev pub traffic_of : ℕ → Call → List Traffic
 traffic_of start (Binds purpose at) = []
 traffic_of start (Receives purpose octets) = Received octets ∷ []
@@ -60,9 +63,26 @@ traffic_of start (ReadsClock now) = Passed (millis_between start now) ∷ []
 traffic_of start (FailsToWait kind) = Failed ∷ []
 traffic_of start (Sends Metatraffic to octets outcome) = Sent to octets ∷ []
 traffic_of start (Sends UserData to octets outcome) = []
+traffic_of start (Announces to octets outcome) = []
 traffic_of start (Withholds bound to octets) =
     if is_answered (ipv4_octets bound) to then [] else Sent to octets ∷ []
 
 -- the calls as those to a network
 abbrev pub traffic_in : ℕ → Option (List Call) → Option (List Traffic)
 traffic_in start calls = option_map (flat_map (traffic_of start)) calls
+
+-- the announcement that a call gave to the socket, with its locator; other calls give none
+abbrev pub announced_of : Call → List (Locator × List ℕ)
+announced_of (Announces to octets outcome) = (to, octets) ∷ []
+announced_of call = []
+
+-- the announcements that were given to the socket, each with its locator (DDSI-RTPS 8.5.3.2);
+-- nothing says whether they arrive
+abbrev pub announced_in : List Call → List (Locator × List ℕ)
+announced_in calls = flat_map announced_of calls
+
+-- if the calls so far are known, no announcement was added to them
+abbrev pub AnnouncesNothing : Option (List Call) → Option (List Call) → Type 0
+AnnouncesNothing None new = ⊤
+AnnouncesNothing (Some old) None = ⊥
+AnnouncesNothing (Some old) (Some new) = announced_in new ≡ announced_in old

@@ -7,7 +7,7 @@ use Rattle.std.specs.declared.io.ErrorKind.TheVariants.{WouldBlock}
 use Rattle.std.specs.declared.net.socket_addr.SocketAddrV4.{SocketAddrV4}
 use Rattle.rtps_types.specs.declared.locator.Locator.{Locator}
 use Rattle.rtps_udp.specs.Addresses.{port_of}
-use Rattle.rtps_udp.specs.Calls.{Binds, Call, FailsToReceive, Logs, ReadsClock, Receives, Sends, Waits}
+use Rattle.rtps_udp.specs.Calls.{Announces, Binds, Call, FailsToReceive, Logs, ReadsClock, Receives, Sends, Waits}
 use Rattle.rtps_udp.specs.Moments.{millis_between}
 use Rattle.rtps_udp.specs.declared.addresses.Purpose.{Purpose}
 use Rattle.rtps_udp.specs.declared.addresses.Purpose.TheVariants.{Metatraffic, UserData}
@@ -38,6 +38,14 @@ SendsAnswer before after to octets (Ok u) = Logs before after (Sends Metatraffic
 SendsAnswer before after to octets (Err (Send kind)) =
     Logs before after (Sends Metatraffic to octets (Some kind))
 SendsAnswer before after to octets (Err fault) = ⊥
+
+-- this announcement was given to the socket for discovery, for this locator, with this result
+unfoldable pub SendsAnnouncement : Option (List Call) → Option (List Call) → Locator → List ℕ
+    → Result (Unit {0}) SocketFault → Type 0
+SendsAnnouncement before after to octets (Ok u) = Logs before after (Announces to octets None)
+SendsAnnouncement before after to octets (Err (Send kind)) =
+    Logs before after (Announces to octets (Some kind))
+SendsAnnouncement before after to octets (Err fault) = ⊥
 
 -- the clock was read, and gave this moment; moments are counted from a start
 abbrev pub ReadsMoment : ℕ → ℕ → Option (List Call) → Option (List Call) → Type 0

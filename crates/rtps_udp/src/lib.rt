@@ -1,4 +1,5 @@
-//! The UDP sockets of a participant: they receive datagrams and send answers.
+//! The UDP sockets of a participant: they receive datagrams, and send answers and
+//! announcements.
 #![tactic(auto)]
 
 mod addresses;

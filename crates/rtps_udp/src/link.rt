@@ -4,11 +4,11 @@ ghost use Rattle.std.specs.Prelude.{◌≤◌, IfErr, IfOk, List, None, OnOk, Op
 ghost use Rattle.std.specs.Duration.{as_nanos};
 ghost use Rattle.std.specs.IoError.{error_kind};
 ghost use Rattle.std.specs.Time.{instant_nanos};
-ghost use Rattle.rtps_udp.specs.Calls.{Binds, Call, FailsToReceive, FailsToWait, Logs, ReadsClock, Receives, Sends, Waits, Withholds};
+ghost use Rattle.rtps_udp.specs.Calls.{Announces, Binds, Call, FailsToReceive, FailsToWait, Logs, ReadsClock, Receives, Sends, Waits, Withholds};
 
 use crate::addresses::Purpose;
 use rtps_types::Locator;
-use std::io;
+use std::io::{self, ErrorKind};
 use std::net::{Ipv4Addr, SocketAddrV4};
 use std::time::{Duration, Instant};
 
@@ -40,10 +40,23 @@ pub trait Link: Drop {
         ensures fault { IfErr result (λ e. Logs (calls self.old) (calls self.new)
             (Sends purpose to octets.now (Some (error_kind e)))) };
 
+    /// Sends an announcement to a locator, which may be a multicast group, from the socket for
+    /// discovery.
+    fn announce(&mut self, to: Locator, octets: &[u8]) -> io::Result<()>
+        ensures sent { OnOk result (Logs (calls self.old) (calls self.new)
+            (Announces to octets.now None)) }
+        ensures fault { IfErr result (λ e. Logs (calls self.old) (calls self.new)
+            (Announces to octets.now (Some (error_kind e)))) };
+
     /// Is told of a datagram that isn't sent, since the locator isn't answered from the address
     /// `bound`. This calls nothing.
     fn withhold(&mut self, bound: Ipv4Addr, to: Locator, octets: &[u8])
         ensures { Logs (calls self.old) (calls self.new) (Withholds bound to octets.now) };
+
+    /// Is told of a fault of who uses the sockets, for example that it is out of memory, by which
+    /// its work ends. This calls nothing.
+    fn fail(&mut self, kind: ErrorKind)
+        ensures { Logs (calls self.old) (calls self.new) (FailsToWait kind) };
 
     /// Waits until a bound socket has a datagram, but at most this time, and reads the clock then.
     fn wait(&mut self, within: Duration) -> io::Result<Instant>

@@ -82,7 +82,13 @@ impl<N: Net, K: Clock> Link for Machine<'_, N, K> {
         Ok(())
     }
 
+    fn announce(&mut self, to: Locator, octets: &[u8]) -> io::Result<()> {
+        self.send(Purpose::Metatraffic, to, octets)
+    }
+
     fn withhold(&mut self, _bound: Ipv4Addr, _to: Locator, _octets: &[u8]) {}
+
+    fn fail(&mut self, _kind: ErrorKind) {}
 
     fn wait(&mut self, within: Duration) -> io::Result<Instant> {
         self.poll.poll(&mut self.events, Some(within))?;

@@ -7,7 +7,7 @@ ghost use Rattle.std.specs.Time.{instant_nanos};
 ghost use Rattle.std.specs.declared.io.ErrorKind.TheVariants.{WouldBlock};
 ghost use Rattle.rtps_udp.specs.Calls.{FailsToReceive, FailsToWait, Logs, Receives, Withholds, traffic_in};
 ghost use Rattle.rtps_udp.specs.Faults.{IsBindFault};
-ghost use Rattle.rtps_udp.specs.Ports.{BindsBoth, BindsOne, ReadsMoment, ReceivesFirst, SendsAnswer, WaitsUntil};
+ghost use Rattle.rtps_udp.specs.Ports.{BindsBoth, BindsOne, ReadsMoment, ReceivesFirst, SendsAnnouncement, SendsAnswer, WaitsUntil};
 
 use crate::addresses::{Purpose, address_of};
 use crate::binding::Binding;
@@ -55,8 +55,8 @@ fn receive_at<L: Link>(link: &mut L, purpose: Purpose, room: &mut [u8]) -> io::R
 /// The two sockets of a participant, with the link that they belong to.
 #[derive(Drop)]
 pub(crate) struct Ports<L: Link> {
-    /// Its socket for discovery receives the datagrams of discovery, and sends all answers; that
-    /// for user data receives these.
+    /// Its socket for discovery receives the datagrams of discovery, and sends all answers and
+    /// announcements; that for user data receives these.
     link: L,
     /// The time that milliseconds are counted from.
     start: Instant,
@@ -93,6 +93,27 @@ impl<L: Link> Ports<L> {
             Ok(()) => Ok(()),
             Err(e) => Err(SocketFault::Send(e.kind())),
         }
+    }
+
+    /// Sends an announcement from the socket for discovery.
+    #[tactic(auto, unfolding(crate::specs::Ports::SendsAnnouncement))]
+    pub(crate) fn announce(&mut self, to: Locator, octets: &[u8]) -> Result<(), SocketFault>
+        ensures sent { SendsAnnouncement (L.calls self.old.link) (L.calls self.new.link)
+            to octets.now result }
+        ensures start { self.new.start ≡ self.old.start }
+    {
+        match self.link.announce(to, octets) {
+            Ok(()) => Ok(()),
+            Err(e) => Err(SocketFault::Send(e.kind())),
+        }
+    }
+
+    /// Tells the link of a fault of who uses the sockets.
+    pub(crate) fn fail(&mut self, kind: ErrorKind)
+        ensures failed { Logs (L.calls self.old.link) (L.calls self.new.link) (FailsToWait kind) }
+        ensures start { self.new.start ≡ self.old.start }
+    {
+        self.link.fail(kind);
     }
 
     /// Tells the link of an answer that isn't sent from the address `bound`.
@@ -147,12 +168,14 @@ impl<L: Link> Ports<L> {
             None => receive_at(&mut self.link, Purpose::UserData, room),
         }
     }
-}
 
-impl<L: Link> Receive for Ports<L> {
-    ghost traffic = { λ ports. traffic_in (instant_nanos ports.start) (L.calls ports.link) };
-
-    fn receive(&mut self, room: &mut [u8]) -> io::Result<Option<usize>> {
+    /// The same, and keeps the kind of an error.
+    pub(crate) fn receive_next(&mut self, room: &mut [u8]) -> io::Result<Option<usize>>
+        ensures fits { IfOk result (λ next. IfSome next (λ n. n ≤ length room.new)) }
+        ensures receives { ReceivesFirst (L.calls self.old.link) (L.calls self.new.link)
+            room.new result }
+        ensures start { self.new.start ≡ self.old.start }
+    {
         match self.receive_first(room) {
             Ok(next) => Ok(next),
             Err(e) => {
@@ -160,5 +183,13 @@ impl<L: Link> Receive for Ports<L> {
                 Err(e)
             }
         }
+    }
+}
+
+impl<L: Link> Receive for Ports<L> {
+    ghost traffic = { λ ports. traffic_in (instant_nanos ports.start) (L.calls ports.link) };
+
+    fn receive(&mut self, room: &mut [u8]) -> io::Result<Option<usize>> {
+        self.receive_next(room)
     }
 }

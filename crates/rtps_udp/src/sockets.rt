@@ -1,17 +1,18 @@
 //! The sockets of a domain's first participant on this machine.
 
-ghost use Rattle.std.specs.Prelude.{◌≡◌, ◌≢◌, ◌*◌, ◌≤◌, [], Err, IfErr, IfOk, OnErr, OnOk, false, length, true};
+ghost use Rattle.std.specs.Prelude.{◌≡◌, ◌≢◌, ◌*◌, ◌≤◌, ◌∷◌, [], Err, IfErr, IfOk, IfSome, None, OnErr, OnOk, false, length, take, true};
 ghost use Rattle.std.specs.Duration.{as_nanos};
 ghost use Rattle.std.specs.Net.Addr.{ipv4_octets};
 ghost use Rattle.std.specs.Time.{instant_nanos};
 ghost use Rattle.rtps_records.specs.Batches.{IsFull, records_in};
-ghost use Rattle.rtps_udp.specs.Addresses.{is_answered as is_answered_by, is_bindable as is_bindable_at, localhost};
-ghost use Rattle.rtps_udp.specs.Calls.{Logs, Withholds, traffic_in};
+ghost use Rattle.rtps_records.specs.Traffic.{Exhausted, Failed, Grows, Passed, Received, Waited};
+ghost use Rattle.rtps_udp.specs.Addresses.{is_answered as is_answered_by, is_bindable as is_bindable_at, localhost, port_of};
+ghost use Rattle.rtps_udp.specs.Calls.{AnnouncesNothing, FailsToWait, Logs, Withholds, traffic_in};
 ghost use Rattle.rtps_udp.specs.Faults.{IsBindFault, IsReceiveFault};
-ghost use Rattle.rtps_udp.specs.Ports.{BindsBoth, ReadsMoment, SendsAnswer, WaitsUntil};
+ghost use Rattle.rtps_udp.specs.Ports.{BindsBoth, ReadsMoment, SendsAnnouncement, SendsAnswer, WaitsUntil};
 ghost use Rattle.rtps_udp.specs.Receiving.{Fills, HoldsAll, Takes, TakesLater};
 
-use crate::addresses::{is_answered, is_bindable};
+use crate::addresses::{Purpose, address_of, is_answered, is_bindable};
 use crate::binding::Binding;
 use crate::fault::{SocketFault, other_fault};
 use crate::link::Link;
@@ -20,7 +21,7 @@ use crate::ports::Ports;
 use rtps_records::{Batch, Exchange, Receive, ReceiveEnd};
 use rtps_types::Locator;
 use std::alloc::Global;
-use std::io;
+use std::io::{self, ErrorKind};
 use std::net::{Ipv4Addr, Net};
 use std::time::{Clock, Duration, Instant};
 
@@ -243,6 +244,122 @@ impl<L: Link> Sockets<L> {
         self.ports.send(to, octets)
     }
 
+    /// Sends an announcement to a locator of one's own choice, which may be that of a multicast
+    /// group, from the socket for discovery. To a group it goes no further than the network of this
+    /// machine. That it is sent doesn't say that it arrives.
+    ///
+    /// `Send` if the system refuses it, for example where there is no way to that network.
+    pub fn announce(&mut self, to: Locator, octets: &[u8]) -> Result<(), SocketFault>
+        ensures sent { SendsAnnouncement (L.calls self.old.ports.link)
+            (L.calls self.new.ports.link) to octets.now result }
+        ensures same { self.new.binding ≡ self.old.binding }
+        ensures moment { self.new.moment ≡ self.old.moment }
+        ensures start { self.new.ports.start ≡ self.old.ports.start }
+    {
+        self.ports.announce(to, octets)
+    }
+
+    /// Sends an announcement to a locator that a peer named, from the socket for discovery.
+    ///
+    /// `NotAnswered` for a locator that no answer is sent to either, as
+    /// [`Sockets::send_answer`] says, so for each multicast group; then nothing is called. `Send`
+    /// if the system refuses it.
+    pub fn announce_to_peer(&mut self, to: Locator, octets: &[u8]) -> Result<(), SocketFault>
+        ensures refused { is_answered_by (ipv4_octets self.old.binding.address) to ≡ false
+            → (result ≡ Err SocketFault.NotAnswered) × (self.new ≡ self.old) }
+        ensures sent { is_answered_by (ipv4_octets self.old.binding.address) to ≡ true
+            → SendsAnnouncement (L.calls self.old.ports.link) (L.calls self.new.ports.link)
+            to octets.now result }
+        ensures same { self.new.binding ≡ self.old.binding }
+        ensures moment { self.new.moment ≡ self.old.moment }
+        ensures start { self.new.ports.start ≡ self.old.ports.start }
+    {
+        if is_answered(self.binding.address, to) {
+            self.announce(to, octets)
+        } else {
+            Err(SocketFault::NotAnswered)
+        }
+    }
+
+    /// Is told of a fault of who uses the sockets, for example that it is out of memory, by which
+    /// its work ends. Seen from the network this is a failure, as one of the sockets would be.
+    /// Nothing is called.
+    pub fn give_up(&mut self, kind: ErrorKind)
+        ensures failed { Logs (L.calls self.old.ports.link) (L.calls self.new.ports.link)
+            (FailsToWait kind) }
+        ensures same { self.new.binding ≡ self.old.binding }
+        ensures moment { self.new.moment ≡ self.old.moment }
+        ensures start { self.new.ports.start ≡ self.old.ports.start }
+    {
+        self.ports.fail(kind);
+    }
+
+    /// Receives the next datagram, as [`Receive::receive`] does, and announces nothing.
+    pub fn receive_next(&mut self, room: &mut [u8]) -> io::Result<Option<usize>>
+        ensures fits { IfOk result (λ next. IfSome next (λ n. n ≤ length room.new)) }
+        ensures some { IfOk result (λ next. IfSome next (λ n. Grows
+            (traffic_in (instant_nanos self.old.ports.start) (L.calls self.old.ports.link))
+            (traffic_in (instant_nanos self.new.ports.start) (L.calls self.new.ports.link))
+            (Received (take n room.new) ∷ []))) }
+        ensures none { IfOk result (λ next. next ≡ None → Grows
+            (traffic_in (instant_nanos self.old.ports.start) (L.calls self.old.ports.link))
+            (traffic_in (instant_nanos self.new.ports.start) (L.calls self.new.ports.link))
+            (Exhausted ∷ [])) }
+        ensures fault { OnErr result (Grows
+            (traffic_in (instant_nanos self.old.ports.start) (L.calls self.old.ports.link))
+            (traffic_in (instant_nanos self.new.ports.start) (L.calls self.new.ports.link))
+            (Failed ∷ [])) }
+        ensures quiet { AnnouncesNothing (L.calls self.old.ports.link)
+            (L.calls self.new.ports.link) }
+        ensures same { self.new.binding ≡ self.old.binding }
+        ensures moment { self.new.moment ≡ self.old.moment }
+        ensures start { self.new.ports.start ≡ self.old.ports.start }
+    {
+        self.ports.receive_next(room)
+    }
+
+    /// Waits for a turn, at most a tenth of a second, as [`Exchange::wait`] does, and announces
+    /// nothing. A clock that can't be read is an error too.
+    pub fn wait_turn(&mut self) -> io::Result<u64>
+        ensures waited { IfOk result (λ moment. Grows
+            (traffic_in (instant_nanos self.old.ports.start) (L.calls self.old.ports.link))
+            (traffic_in (instant_nanos self.new.ports.start) (L.calls self.new.ports.link))
+            (Waited ∷ Passed moment ∷ [])) }
+        ensures fault { OnErr result (Grows
+            (traffic_in (instant_nanos self.old.ports.start) (L.calls self.old.ports.link))
+            (traffic_in (instant_nanos self.new.ports.start) (L.calls self.new.ports.link))
+            (Failed ∷ [])) }
+        ensures moment { IfOk result (λ moment. self.new.moment ≡ moment) }
+        ensures stays { OnErr result (self.new.moment ≡ self.old.moment) }
+        ensures quiet { AnnouncesNothing (L.calls self.old.ports.link)
+            (L.calls self.new.ports.link) }
+        ensures same { self.new.binding ≡ self.old.binding }
+        ensures start { self.new.ports.start ≡ self.old.ports.start }
+    {
+        let moment = self.ports.wait(turn())?;
+        self.moment = moment;
+        Ok(moment)
+    }
+
+    /// Returns where the sockets are bound.
+    pub fn binding(&self) -> Binding
+        ensures { result ≡ self.now.binding }
+    {
+        self.binding
+    }
+
+    /// Returns the locator of the socket with this purpose: the address of the binding and its
+    /// default port (DDSI-RTPS 9.6.1.1).
+    pub fn locator(&self, purpose: Purpose) -> Locator
+        ensures address { result.address ≡ ipv4_octets self.now.binding.address }
+        ensures port { result.port ≡ port_of self.now.binding.domain purpose }
+    {
+        Locator {
+            port: address_of(self.binding, purpose).port(),
+            address: self.binding.address.octets(),
+        }
+    }
+
     /// Waits until a datagram has come, but at most this time.
     fn wait_for(&mut self, within: Duration) -> Result<(), SocketFault>
         ensures waited { OnOk result (WaitsUntil (as_nanos within)
@@ -316,16 +433,14 @@ impl<L: Link> Receive for Sockets<L> {
 
     /// Discovery's datagrams come first, so that a writer is known before its samples come.
     fn receive(&mut self, room: &mut [u8]) -> io::Result<Option<usize>> {
-        self.ports.receive(room)
+        self.receive_next(room)
     }
 }
 
 impl<L: Link> Exchange for Sockets<L> {
     /// Waits at most a tenth of a second. A clock that can't be read is an error too.
     fn wait(&mut self) -> io::Result<u64> {
-        let moment = self.ports.wait(turn())?;
-        self.moment = moment;
-        Ok(moment)
+        self.wait_turn()
     }
 
     /// As [`Sockets::send_answer`] sends it, but a fault isn't reported.

@@ -302,7 +302,13 @@ impl Link for Broken {
         Ok(())
     }
 
+    fn announce(&mut self, _to: Locator, _octets: &[u8]) -> io::Result<()> {
+        Ok(())
+    }
+
     fn withhold(&mut self, _bound: Ipv4Addr, _to: Locator, _octets: &[u8]) {}
+
+    fn fail(&mut self, _kind: ErrorKind) {}
 
     fn wait(&mut self, _within: Duration) -> io::Result<Instant> {
         Ok(self.time)
