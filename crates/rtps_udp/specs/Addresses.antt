@@ -10,11 +10,17 @@ use Rattle.rtps_udp.specs.declared.addresses.Purpose.TheVariants.{Metatraffic, U
 abbrev pub localhost : Ipv4Addr
 localhost = record { octets = 127 ∷ 0 ∷ 0 ∷ 1 ∷ [] }
 
--- the default ports of a domain's first participant (DDSI-RTPS 9.6.1.1): the port base PB, the
--- domain gain DG times the domain, and the offset of the purpose
-abbrev pub port_of : ℕ → Purpose → ℕ
-port_of domain Metatraffic = 7400 + 250 * domain + 10
-port_of domain UserData = 7400 + 250 * domain + 11
+-- the default ports of the participant with an index in a domain (DDSI-RTPS 9.6.1.1): the port base
+-- PB, the domain gain DG times the domain, the offset of the purpose, and the participant gain PG
+-- times the index
+abbrev pub port_of : ℕ → ℕ → Purpose → ℕ
+port_of domain participant Metatraffic = 7400 + 250 * domain + 10 + 2 * participant
+port_of domain participant UserData = 7400 + 250 * domain + 11 + 2 * participant
+
+-- The last index of a participant in a domain. From 120 on the ports would be those of the next
+-- domain, and in domain 232 they have 16 bits up to index 62 alone.
+abbrev pub last_index : ℕ → ℕ
+last_index domain = if nat_le 232 domain then 62 else 119
 
 -- the first octet of an address is one of these
 abbrev pub begins_within : ℕ → ℕ → List ℕ → Bool

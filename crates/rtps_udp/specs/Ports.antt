@@ -18,7 +18,7 @@ use Rattle.rtps_udp.specs.declared.fault.SocketFault.TheVariants.{Send}
 -- the address of the socket for a purpose
 abbrev pub IsAddressOf : Binding → Purpose → SocketAddrV4 → Type 0
 IsAddressOf binding purpose at =
-    (v4_ip at ≡ binding.address) × (v4_port at ≡ port_of binding.domain purpose)
+    (v4_ip at ≡ binding.address) × (v4_port at ≡ port_of binding.domain binding.participant purpose)
 
 -- the socket for a purpose was bound at its address
 abbrev pub BindsOne : Binding → Purpose → Option (List Call) → Option (List Call) → Type 0

@@ -11,10 +11,11 @@ use thiserror::Error;
 /// Why a call of [`Sockets`](crate::Sockets) failed. A kind is that of the system's error.
 #[derive(Clone, Copy, Debug, PartialEq, Eq, Error)]
 pub enum SocketFault {
-    /// Another socket has the port for discovery, 7410 + 250 times the domain.
+    /// Another socket has the port for discovery: the sum of 7410, 250 times the domain, and twice
+    /// the index of the participant.
     #[error("the port for discovery is taken")]
     DiscoveryPortTaken,
-    /// Another socket has the port for user data, 7411 + 250 times the domain.
+    /// Another socket has the port for user data, the one after the port for discovery.
     #[error("the port for user data is taken")]
     UserPortTaken,
     /// The address isn't one of this machine.

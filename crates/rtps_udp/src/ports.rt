@@ -20,7 +20,7 @@ use std::io::{self, ErrorKind};
 use std::net::Ipv4Addr;
 use std::time::{Duration, Instant};
 
-/// Binds the socket of a domain's first participant that has this purpose.
+/// Binds the socket of a participant that has this purpose.
 fn bind_one<L: Link>(link: &mut L, binding: Binding, purpose: Purpose) -> Result<(), SocketFault>
     ensures bound { OnOk result (BindsOne binding purpose (L.calls link.old) (L.calls link.new)) }
     ensures fault { IfErr result IsBindFault }

@@ -1,4 +1,4 @@
-//! The sockets of a domain's first participant on this machine.
+//! The sockets of a participant on this machine.
 
 ghost use Rattle.std.specs.Prelude.{◌≡◌, ◌≢◌, ◌*◌, ◌≤◌, ◌∷◌, [], Err, IfErr, IfOk, IfSome, None, OnErr, OnOk, false, length, take, true};
 ghost use Rattle.std.specs.Duration.{as_nanos};
@@ -6,14 +6,14 @@ ghost use Rattle.std.specs.Net.Addr.{ipv4_octets};
 ghost use Rattle.std.specs.Time.{instant_nanos};
 ghost use Rattle.rtps_records.specs.Batches.{IsFull, records_in};
 ghost use Rattle.rtps_records.specs.Traffic.{Exhausted, Failed, Grows, Passed, Received, Waited};
-ghost use Rattle.rtps_udp.specs.Addresses.{is_answered as is_answered_by, is_bindable as is_bindable_at, localhost, port_of};
+ghost use Rattle.rtps_udp.specs.Addresses.{is_answered as is_answered_by, is_bindable as is_bindable_at, last_index as last_index_of, localhost, port_of};
 ghost use Rattle.rtps_udp.specs.Calls.{AnnouncesNothing, FailsToWait, Logs, Withholds, traffic_in};
 ghost use Rattle.rtps_udp.specs.Faults.{IsBindFault, IsReceiveFault};
 ghost use Rattle.rtps_udp.specs.Ports.{BindsBoth, ReadsMoment, SendsAnnouncement, SendsAnswer, WaitsUntil};
 ghost use Rattle.rtps_udp.specs.Receiving.{Fills, HoldsAll, Takes, TakesLater};
 
 use crate::addresses::{Purpose, address_of, is_answered, is_bindable};
-use crate::binding::Binding;
+use crate::binding::{Binding, last_index};
 use crate::fault::{SocketFault, other_fault};
 use crate::link::Link;
 use crate::machine::Machine;
@@ -88,15 +88,16 @@ impl<'a, N: Net, K: Clock> Sockets<Machine<'a, N, K>> {
     ) -> Result<Sockets<Machine<'a, N, K>>, SocketFault>
         requires { domain ≤ 232 }
         ensures domain { IfOk result (λ sockets. sockets.binding.domain ≡ domain) }
+        ensures participant { IfOk result (λ sockets. sockets.binding.participant ≡ 0) }
         ensures address { IfOk result (λ sockets. sockets.binding.address ≡ localhost) }
         ensures fault { IfErr result IsBindFault }
     {
         Sockets::bind_at(net, clock, alloc, Binding::loopback(domain))
     }
 
-    /// Binds the sockets of a domain's first participant at an address of this machine, or by
-    /// 0.0.0.0 at all of them, and starts to count milliseconds by the clock. The ports are the
-    /// default ones of the UDP mapping (DDSI-RTPS 9.6.1.1). No multicast group is joined.
+    /// Binds the sockets of a participant at an address of this machine, or by 0.0.0.0 at all of
+    /// them, and starts to count milliseconds by the clock. The ports are the default ones of the
+    /// UDP mapping (DDSI-RTPS 9.6.1.1). No multicast group is joined.
     ///
     /// The faults, in the order in which they are found: `ForeignAddress` for a multicast or the
     /// broadcast address, or one of 0.0.0.0/8 other than 0.0.0.0; `Clock` if the clock can't be
@@ -126,11 +127,54 @@ impl<'a, N: Net, K: Clock> Sockets<Machine<'a, N, K>> {
             Err(e) => Err(other_fault(e.kind())),
         }
     }
+
+    /// Binds the sockets of the first participant of a domain, 0 to 232, whose two ports are free at
+    /// an address of this machine, or by 0.0.0.0 at all of them: the indices 0, 1, .. are tried, up
+    /// to 119, and up to 62 in domain 232. Milliseconds are counted from the bind that succeeds.
+    ///
+    /// The faults are those of [`Sockets::bind_at`]: where no index is free, that of the last one,
+    /// and each fault other than that a port is taken at once. Nothing that was bound for an index
+    /// without success is left bound.
+    pub fn bind_first(
+        net: &'a N,
+        clock: &'a K,
+        alloc: Global,
+        domain: u16,
+        address: Ipv4Addr,
+    ) -> Result<Sockets<Machine<'a, N, K>>, SocketFault>
+        requires { domain ≤ 232 }
+        ensures domain { IfOk result (λ sockets. sockets.binding.domain ≡ domain) }
+        ensures participant { IfOk result (λ sockets.
+            sockets.binding.participant ≤ last_index_of domain) }
+        ensures address { IfOk result (λ sockets. sockets.binding.address ≡ address) }
+        ensures foreign { is_bindable_at (ipv4_octets address) ≡ false
+            → result ≡ Err SocketFault.ForeignAddress }
+        ensures fault { IfErr result IsBindFault }
+    {
+        let last = last_index(domain);
+        for participant in 0..last {
+            let binding = Binding {
+                domain,
+                participant,
+                address,
+            };
+            match Sockets::bind_at(net, clock, alloc, binding) {
+                Err(SocketFault::DiscoveryPortTaken | SocketFault::UserPortTaken) => {}
+                bound => return bound,
+            }
+        }
+        let binding = Binding {
+            domain,
+            participant: last,
+            address,
+        };
+        Sockets::bind_at(net, clock, alloc, binding)
+    }
 }
 
 impl<L: Link> Sockets<L> {
-    /// Binds the sockets of a domain's first participant over a link of one's own, for example one
-    /// that keeps what is sent. Moments are counted from `start`, a time of the link's clock.
+    /// Binds the sockets of a participant over a link of one's own, for example one that keeps what
+    /// is sent. Moments are counted from `start`, a time of the link's clock.
     ///
     /// The faults are those of [`Sockets::bind_at`] without `Clock`. Then no socket is left bound.
     pub fn over(link: L, start: Instant, binding: Binding) -> Result<Sockets<L>, SocketFault>
@@ -352,7 +396,8 @@ impl<L: Link> Sockets<L> {
     /// default port (DDSI-RTPS 9.6.1.1).
     pub fn locator(&self, purpose: Purpose) -> Locator
         ensures address { result.address ≡ ipv4_octets self.now.binding.address }
-        ensures port { result.port ≡ port_of self.now.binding.domain purpose }
+        ensures port { result.port
+            ≡ port_of self.now.binding.domain self.now.binding.participant purpose }
     {
         Locator {
             port: address_of(self.binding, purpose).port(),

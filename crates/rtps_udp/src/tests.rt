@@ -33,7 +33,11 @@ fn free_sockets<'a, K: Clock>(
     ensures { IfOk result (λ free. free.1 ≤ 232) }
 {
     for (domain, port) in DOMAINS {
-        let binding = Binding { domain, address };
+        let binding = Binding {
+            domain,
+            participant: 0,
+            address,
+        };
         if let Ok(sockets) = Sockets::bind_at(rt, clock, rt.alloc(), binding) {
             return Ok((sockets, domain, port));
         }
@@ -176,6 +180,7 @@ fn names_what_is_wrong_with_a_binding(rt: HostRuntime) -> Result<(), Fail> {
     for address in [[192, 0, 2, 1], [239, 255, 0, 1]] {
         let binding = Binding {
             domain: 94,
+            participant: 0,
             address: Ipv4Addr::from(address),
         };
         match Sockets::bind_at(&rt, &rt, rt.alloc(), binding) {
