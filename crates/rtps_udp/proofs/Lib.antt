@@ -1,2 +1,3 @@
+pub mod Announced
 pub mod Calls
 pub mod Receiving

@@ -37,8 +37,8 @@ impl Binding {
     }
 }
 
-/// Returns the last index of a participant in a domain: both of its ports are numbers of 16 bits, and
-/// none is one of the next domain.
+/// Returns the last index of a participant in a domain: both of its ports are numbers of 16 bits,
+/// and neither is one of the next domain.
 pub(crate) fn last_index(domain: u16) -> u8
     requires { domain ≤ 232 }
     ensures value { result ≡ last_index_of domain }

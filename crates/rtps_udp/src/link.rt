@@ -53,8 +53,8 @@ pub trait Link: Drop {
     fn withhold(&mut self, bound: Ipv4Addr, to: Locator, octets: &[u8])
         ensures { Logs (calls self.old) (calls self.new) (Withholds bound to octets.now) };
 
-    /// Is told of a fault of who uses the sockets, for example that it is out of memory, by which
-    /// its work ends. This calls nothing.
+    /// Learns of a fault of who uses the sockets, for example that it is out of memory, by which its
+    /// work ends. This calls nothing.
     fn fail(&mut self, kind: ErrorKind)
         ensures { Logs (calls self.old) (calls self.new) (FailsToWait kind) };
 

@@ -325,9 +325,8 @@ impl<L: Link> Sockets<L> {
         }
     }
 
-    /// Is told of a fault of who uses the sockets, for example that it is out of memory, by which
-    /// its work ends. Seen from the network this is a failure, as one of the sockets would be.
-    /// Nothing is called.
+    /// Learns of a fault of who uses the sockets, for example that it is out of memory, by which its
+    /// work ends. To a network this is a failure, as one of the sockets would be. Nothing is called.
     pub fn give_up(&mut self, kind: ErrorKind)
         ensures failed { Logs (L.calls self.old.ports.link) (L.calls self.new.ports.link)
             (FailsToWait kind) }

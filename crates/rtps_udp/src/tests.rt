@@ -215,6 +215,86 @@ fn names_the_port_that_is_taken(rt: HostRuntime) -> Result<(), Fail> {
     Err(Fail::new("the port of each domain is taken"))
 }
 
+/// Domains of one test alone, and the port for discovery of the first participant in each.
+const SHARED: [(u16, u16); 3] = [(90, 29_910), (89, 29_660), (88, 29_410)];
+
+#[test]
+fn the_second_participant_has_the_next_ports(rt: HostRuntime) -> Result<(), Fail> {
+    let mut room = [0; 4];
+    for (domain, port) in SHARED {
+        let mut first = Sockets::bind_first(&rt, &rt, rt.alloc(), domain, Ipv4Addr::LOCALHOST)?;
+        let mut second = Sockets::bind_first(&rt, &rt, rt.alloc(), domain, Ipv4Addr::LOCALHOST)?;
+        if first.binding().participant != 0 || second.binding().participant != 1 {
+            // Another run of this test has a port of this domain.
+            continue;
+        }
+        assert_eq!(rt; second.binding().domain, domain);
+        let to = first.locator(Purpose::Metatraffic);
+        assert_eq!(rt; (to.port, to.address), (port, [127, 0, 0, 1]));
+        let next = second.locator(Purpose::Metatraffic);
+        assert_eq!(rt; next.port, port.saturating_add(2));
+        let user = second.locator(Purpose::UserData);
+        assert_eq!(rt;
+            (user.port, user.address),
+            (port.saturating_add(3), [127, 0, 0, 1])
+        );
+
+        second.announce_to_peer(to, b"here")?;
+        first.wait_turn()?;
+        assert_eq!(rt; first.receive_next(&mut room)?, Some(4));
+        assert_eq!(rt; room, *b"here");
+        first.announce(user, b"hear")?;
+        second.wait_turn()?;
+        assert_eq!(rt; second.receive_next(&mut room)?, Some(4));
+        assert_eq!(rt; room, *b"hear");
+        return Ok(());
+    }
+    Err(Fail::new("a port of each domain is taken"))
+}
+
+#[test]
+fn announces_from_the_socket_for_discovery(rt: HostRuntime) -> Result<(), Fail> {
+    let (mut sockets, _, discovery) = free_sockets(&rt, &rt, Ipv4Addr::LOCALHOST)?;
+    let (peer, to) = peer(&rt)?;
+    sockets.announce_to_peer(to, b"ask")?;
+    let mut room = [0; 4];
+    let (length, from) = peer.recv_from(&mut room)?;
+    assert_eq!(rt; (length, room), (3, *b"ask\0"));
+    assert_eq!(rt; from, SocketAddr::from((Ipv4Addr::LOCALHOST, discovery)));
+
+    let group = Locator {
+        port: 7400,
+        address: [239, 255, 0, 1],
+    };
+    let refused = sockets.announce_to_peer(group, b"ask");
+    assert_eq!(rt; refused, Err(SocketFault::NotAnswered));
+    // A group of one's own is left to the system.
+    assert!(rt; sockets.announce(group, b"ask") != Err(SocketFault::NotAnswered));
+    Ok(())
+}
+
+#[test]
+fn refuses_where_each_participant_is_there(rt: HostRuntime) -> Result<(), Fail> {
+    let mut held = Vec::new(rt.alloc());
+    // The last domain has room for 63 participants.
+    for _ in 0..63 {
+        match Sockets::bind_first(&rt, &rt, rt.alloc(), 232, Ipv4Addr::LOCALHOST) {
+            Ok(sockets) => held.push(sockets)?,
+            Err(_) => break,
+        }
+    }
+    match Sockets::bind_first(&rt, &rt, rt.alloc(), 232, Ipv4Addr::LOCALHOST) {
+        Ok(_) => assert!(rt; false, "there is a 64th participant"),
+        Err(fault) => assert_eq!(rt; fault, SocketFault::DiscoveryPortTaken),
+    }
+    let elsewhere = Ipv4Addr::new(192, 0, 2, 1);
+    match Sockets::bind_first(&rt, &rt, rt.alloc(), 232, elsewhere) {
+        Ok(_) => assert!(rt; false, "an address of this machine"),
+        Err(fault) => assert_eq!(rt; fault, SocketFault::ForeignAddress),
+    }
+    Ok(())
+}
+
 /// A clock that a test sets. It can't be read where there is no time.
 #[derive(Drop)]
 struct SetClock(Cell<Option<Duration>>);
@@ -333,6 +413,27 @@ fn names_the_fault_of_a_socket(rt: HostRuntime) -> Result<(), Fail> {
         let mut batch = Batch::new(rt.alloc())?;
         let received = sockets.receive_batch(&mut batch, Duration::ZERO);
         assert_eq!(rt; received, Err(SocketFault::Receive(kind)));
+        sockets.give_up(ErrorKind::OutOfMemory);
     }
+    Ok(())
+}
+
+#[test]
+fn the_last_port_is_the_last_number(rt: HostRuntime) -> Result<(), Fail> {
+    let time = Instant::now(&rt)?;
+    let kind = ErrorKind::Other;
+    let binding = Binding {
+        domain: 232,
+        participant: 62,
+        address: Ipv4Addr::new(192, 0, 2, 1),
+    };
+    let sockets = Sockets::over(Broken { time, kind }, time, binding)?;
+    assert_eq!(rt; sockets.binding(), binding);
+    let discovery = sockets.locator(Purpose::Metatraffic);
+    assert_eq!(rt;
+        (discovery.port, discovery.address),
+        (65_534, [192, 0, 2, 1])
+    );
+    assert_eq!(rt; sockets.locator(Purpose::UserData).port, 65_535);
     Ok(())
 }

@@ -1,6 +1,7 @@
 use Rattle.std.proofs.Common.{ap, refl}
 use Rattle.std.specs.Time.{instant_nanos}
-use Rattle.rtps_udp.proofs.Calls.{quiet_first, seen_fault, seen_none, seen_some}
+use Rattle.rtps_udp.proofs.Announced.{quiet_first}
+use Rattle.rtps_udp.proofs.Calls.{seen_fault, seen_none, seen_some}
 use Rattle.rtps_udp.proofs.sockets.Sockets.receive_next.Goals as goal
 
 pub returns : goal.returns

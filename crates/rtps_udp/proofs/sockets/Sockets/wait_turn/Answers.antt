@@ -1,6 +1,7 @@
 use Rattle.std.proofs.Common.{rules, ap, subst}
 use Rattle.std.specs.Time.{instant_nanos}
-use Rattle.rtps_udp.proofs.Calls.{quiet_break, quiet_wait, seen_break, seen_turn}
+use Rattle.rtps_udp.proofs.Announced.{quiet_break, quiet_wait}
+use Rattle.rtps_udp.proofs.Calls.{seen_break, seen_turn}
 use Rattle.rtps_udp.specs.Ports.{WaitsUntil}
 use Rattle.rtps_udp.proofs.sockets.Sockets.wait_turn.Goals as goal
 
