@@ -218,38 +218,49 @@ fn names_the_port_that_is_taken(rt: HostRuntime) -> Result<(), Fail> {
 /// Domains of one test alone, and the port for discovery of the first participant in each.
 const SHARED: [(u16, u16); 3] = [(90, 29_910), (89, 29_660), (88, 29_410)];
 
-#[test]
-fn the_second_participant_has_the_next_ports(rt: HostRuntime) -> Result<(), Fail> {
-    let mut room = [0; 4];
-    for (domain, port) in SHARED {
-        let mut first = Sockets::bind_first(&rt, &rt, rt.alloc(), domain, Ipv4Addr::LOCALHOST)?;
-        let mut second = Sockets::bind_first(&rt, &rt, rt.alloc(), domain, Ipv4Addr::LOCALHOST)?;
-        if first.binding().participant != 0 || second.binding().participant != 1 {
-            // Another run of this test has a port of this domain.
-            continue;
-        }
-        assert_eq!(rt; second.binding().domain, domain);
-        let to = first.locator(Purpose::Metatraffic);
-        assert_eq!(rt; (to.port, to.address), (port, [127, 0, 0, 1]));
-        let next = second.locator(Purpose::Metatraffic);
-        assert_eq!(rt; next.port, port.saturating_add(2));
-        let user = second.locator(Purpose::UserData);
-        assert_eq!(rt;
-            (user.port, user.address),
-            (port.saturating_add(3), [127, 0, 0, 1])
-        );
+/// The sockets of a participant of this machine.
+type Participant<'a> = Sockets<Machine<'a, HostRuntime, HostRuntime>>;
 
-        second.announce_to_peer(to, b"here")?;
-        first.wait_turn()?;
-        assert_eq!(rt; first.receive_next(&mut room)?, Some(4));
-        assert_eq!(rt; room, *b"here");
-        first.announce(user, b"hear")?;
-        second.wait_turn()?;
-        assert_eq!(rt; second.receive_next(&mut room)?, Some(4));
-        assert_eq!(rt; room, *b"hear");
-        return Ok(());
+/// Returns the sockets of the first two participants of the first of these domains that nobody else
+/// takes part in, and the port for discovery of the first participant.
+fn two_participants<'a>(
+    rt: &'a HostRuntime,
+) -> Result<(Participant<'a>, Participant<'a>, u16), Fail> {
+    for (domain, port) in SHARED {
+        let first = Sockets::bind_first(rt, rt, rt.alloc(), domain, Ipv4Addr::LOCALHOST)?;
+        let second = Sockets::bind_first(rt, rt, rt.alloc(), domain, Ipv4Addr::LOCALHOST)?;
+        if first.binding().participant == 0 && second.binding().participant == 1 {
+            return Ok((first, second, port));
+        }
     }
     Err(Fail::new("a port of each domain is taken"))
+}
+
+#[test]
+fn the_second_participant_has_the_next_ports(rt: HostRuntime) -> Result<(), Fail> {
+    let (mut first, mut second, port) = two_participants(&rt)?;
+    let to = first.locator(Purpose::Metatraffic);
+    assert_eq!(rt; (to.port, to.address), (port, [127, 0, 0, 1]));
+    assert_eq!(rt;
+        second.locator(Purpose::Metatraffic).port,
+        port.saturating_add(2)
+    );
+    let user = second.locator(Purpose::UserData);
+    assert_eq!(rt;
+        (user.port, user.address),
+        (port.saturating_add(3), [127, 0, 0, 1])
+    );
+
+    let mut room = [0; 4];
+    second.announce_to_peer(to, b"here")?;
+    first.wait_turn()?;
+    assert_eq!(rt; first.receive_next(&mut room)?, Some(4));
+    assert_eq!(rt; room, *b"here");
+    first.announce(user, b"hear")?;
+    second.wait_turn()?;
+    assert_eq!(rt; second.receive_next(&mut room)?, Some(4));
+    assert_eq!(rt; room, *b"hear");
+    Ok(())
 }
 
 #[test]
