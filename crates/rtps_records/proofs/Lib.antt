@@ -2,6 +2,7 @@ pub mod Batching
 pub mod Cuts
 pub mod Filled
 pub mod Frames
+pub mod Heard
 pub mod Received
 pub mod Faults
 pub mod OneReading

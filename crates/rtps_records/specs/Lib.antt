@@ -6,5 +6,6 @@ pub mod Parts
 pub mod Traffic
 pub mod RecordFile
 pub mod Runs
+pub mod Speech
 pub mod Steps
 pub mod Text

@@ -2,6 +2,7 @@
 
 ghost use Rattle.std.specs.Prelude.{◌≡◌, ◌+◌, ◌≤◌, ◌∷◌, [], IfOk, IfSome, List, None, OnErr, Option, drop, length, take, vec_len};
 ghost use Rattle.rtps_records.specs.Batches.{IsFull, records_in};
+ghost use Rattle.rtps_records.specs.Speech.{Speech};
 ghost use Rattle.rtps_records.specs.Traffic.{Exhausted, Failed, Grows, Received, ReceivesAll, ReceivesNext, Traffic, last_call};
 ghost use Rattle.rtps_records.specs.declared.receive_end.ReceiveEnd.TheVariants.{More};
 
@@ -11,9 +12,12 @@ use crate::receive_end::ReceiveEnd;
 use std::alloc::{AllocError, Allocator};
 use std::io;
 
-/// A source of datagrams, one at a time.
+/// A source of datagrams, one at a time. Its ghost `speech` is what it sends of its own accord, which
+/// no call changes.
 pub trait Receive {
     ghost traffic: { Self → Option (List Traffic) };
+
+    ghost speech: { Self → Speech };
 
     /// Receives the next datagram into the front of `room`, and returns its length; `None` where
     /// all datagrams that came were received. A datagram that is longer than the room is cut. An
@@ -24,7 +28,8 @@ pub trait Receive {
             Grows (traffic self.old) (traffic self.new) (Received (take n room.new) ∷ []))) }
         ensures none { IfOk result (λ next. next ≡ None
             → Grows (traffic self.old) (traffic self.new) (Exhausted ∷ [])) }
-        ensures fault { OnErr result (Grows (traffic self.old) (traffic self.new) (Failed ∷ [])) };
+        ensures fault { OnErr result (Grows (traffic self.old) (traffic self.new) (Failed ∷ [])) }
+        ensures speech { speech self.new ≡ speech self.old };
 }
 
 /// Receives a datagram into `octets` after the first `used` ones, and returns its length.
@@ -44,6 +49,7 @@ fn receive_after<S: Receive>(
         → Grows (S.traffic source.old) (S.traffic source.new) (Exhausted ∷ [])) }
     ensures fault { OnErr result
         (Grows (S.traffic source.old) (S.traffic source.new) (Failed ∷ [])) }
+    ensures speech { S.speech source.new ≡ S.speech source.old }
 {
     let (_, rest) = octets.split_at_mut(used);
     let (room, _) = rest.split_at_mut(MAX_LEN);
@@ -66,6 +72,7 @@ impl<A: Allocator> Batch<A> {
             (S.traffic source.old) (S.traffic source.new)
             (records_in self.old) (records_in self.new)) }
         ensures same_source { OnErr result (source.new ≡ source.old) }
+        ensures speech { S.speech source.new ≡ S.speech source.old }
         ensures same { OnErr result (records_in self.new ≡ records_in self.old) }
     {
         self.make_room()?;
@@ -86,6 +93,7 @@ impl<A: Allocator> Batch<A> {
             (S.traffic source.old) (S.traffic source.new)
             (records_in self.old) (records_in self.new)) }
         ensures same_source { OnErr result (source.new ≡ source.old) }
+        ensures speech { S.speech source.new ≡ S.speech source.old }
         ensures same { OnErr result (records_in self.new ≡ records_in self.old) }
     {
         self.pieces.reserve(1)?;
@@ -120,6 +128,7 @@ impl<A: Allocator> Batch<A> {
             (S.traffic source.old) (S.traffic source.new) moment (records_in self.new) []) }
         ensures few { length (records_in self.new) ≤ most }
         ensures full { IfOk result (λ end. end ≡ More → IsFull most self.new) }
+        ensures speech { S.speech source.new ≡ S.speech source.old }
     {
         self.clear();
         while self.len() < most as usize && self.has_room() {

@@ -6,30 +6,11 @@ use Rattle.rtps_records.specs.RecordFile.{Datagram, Record, Tick}
 use Rattle.rtps_records.specs.Traffic.{Exhausted, Failed, Grows, Passed, Received, Sent, Traffic, Waited, failures_in, heard_after, heard_in, last_call, moment_after, receipts, received_in, sent_in, waits_in}
 use Rattle.rtps_records.specs.declared.receive_end.ReceiveEnd.{ReceiveEnd}
 use Rattle.rtps_records.specs.declared.receive_end.ReceiveEnd.TheVariants.{Drained, Fault, More}
+use Rattle.rtps_records.proofs.Heard.{heard-append, moment-append}
 use Rattle.rtps_records.proofs.Received.{Grows-nil, Grows-trans, received-append}
 use Rattle.rtps_text.specs.Listened.{IsDrained, ReadsClock, WaitsInTurn}
 use Rattle.rtps_text.specs.Live.{IsLast}
 use Rattle.rtps_text.specs.Sending.{Sends, sendings}
-
-heard-append : (m : ℕ) (xs ys : List Traffic)
-    → heard_after m (xs ++ ys) ≡ heard_after m xs ++ heard_after (moment_after m xs) ys
-heard-append m [] ys = refl
-heard-append m (Waited ∷ xs) ys = heard-append m xs ys
-heard-append m (Passed n ∷ xs) ys = ap (λ l. Tick n ∷ l) (heard-append n xs ys)
-heard-append m (Received o ∷ xs) ys = ap (λ l. Datagram m o ∷ l) (heard-append m xs ys)
-heard-append m (Exhausted ∷ xs) ys = heard-append m xs ys
-heard-append m (Failed ∷ xs) ys = heard-append m xs ys
-heard-append m (Sent to o ∷ xs) ys = heard-append m xs ys
-
-moment-append : (m : ℕ) (xs ys : List Traffic)
-    → moment_after m (xs ++ ys) ≡ moment_after (moment_after m xs) ys
-moment-append m [] ys = refl
-moment-append m (Waited ∷ xs) ys = moment-append m xs ys
-moment-append m (Passed n ∷ xs) ys = moment-append n xs ys
-moment-append m (Received o ∷ xs) ys = moment-append m xs ys
-moment-append m (Exhausted ∷ xs) ys = moment-append m xs ys
-moment-append m (Failed ∷ xs) ys = moment-append m xs ys
-moment-append m (Sent to o ∷ xs) ys = moment-append m xs ys
 
 received-count : (xs ys : List Traffic)
     → length (received_in (xs ++ ys)) ≡ length (received_in xs) + length (received_in ys)

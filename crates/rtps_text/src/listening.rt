@@ -44,12 +44,13 @@ pub fn listen<C: TextCatalog, N: Exchange, W: Write, T: Threads + Sync>(
 ) -> Result<(), LiveFault>
 where
     C::Value: Sync,
-    ensures { Listened
+    ensures prints { Listened
         (live_run (C.text_of setup.run.catalog) (C.decoding setup.run.catalog)
         setup.run.config setup.run.summary)
         (limits_of setup.datagrams setup.turns) result
         (N.traffic network.old) (N.traffic network.new)
         (W.contents writer.old) (W.contents writer.new) }
+    ensures speech { N.speech network.new ≡ N.speech network.old }
 {
     let LiveSetup {
         run,
@@ -92,10 +93,11 @@ where
     requires live { IsLive live }
     requires fresh { HasSaid C.text_of C.decoding [] [] live.run.participant.engine }
     requires unread { live.moment ≡ 0 }
-    ensures { Listened
+    ensures prints { Listened
         (live_by C.text_of C.decoding live.entry.run.participant.engine live.entry.run.summary)
         (limits_of live.entry.left turns) result (N.traffic network.old) (N.traffic network.new)
         (W.contents writer.old) (W.contents writer.new) }
+    ensures speech { N.speech network.new ≡ N.speech network.old }
 {
     let mut lines = Lines::new(live.run.alloc, writer);
     print_turns(rt, live, turns, network, &mut lines)
@@ -116,6 +118,7 @@ where
     requires unread { live.moment ≡ 0 }
     requires empty { lines.old.text.items ≡ [] }
     ensures same_writer { lines.new.writer.ghost_name ≡ lines.old.writer.ghost_name }
+    ensures speech { N.speech network.new ≡ N.speech network.old }
     ensures prints { Listened
         (live_by C.text_of C.decoding live.entry.run.participant.engine live.entry.run.summary)
         (limits_of live.entry.left turns) result (N.traffic network.old) (N.traffic network.new)

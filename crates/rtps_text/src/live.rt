@@ -90,6 +90,7 @@ where
         requires few { length (records_in self.old.batch) ≤ 4096 }
         requires empty { lines.old.text.items ≡ [] }
         ensures same_writer { lines.new.writer.ghost_name ≡ lines.old.writer.ghost_name }
+        ensures speech { N.speech network.new ≡ N.speech network.old }
         ensures live { OnOk result (IsLive self.new) }
         ensures empty { OnOk result (lines.new.text.items ≡ []) }
         ensures same { OnOk result (IsSameRun self.old.run self.new.run) }
@@ -127,6 +128,7 @@ where
         requires live { IsLive self.old }
         requires empty { lines.old.text.items ≡ [] }
         ensures same_writer { lines.new.writer.ghost_name ≡ lines.old.writer.ghost_name }
+        ensures speech { N.speech network.new ≡ N.speech network.old }
         ensures live { OnOk result (IsLive self.new) }
         ensures empty { OnOk result (lines.new.text.items ≡ []) }
         ensures same { OnOk result (IsSameRun self.old.run self.new.run) }
@@ -158,6 +160,7 @@ where
         requires some { 0 < self.old.left }
         requires empty { lines.old.text.items ≡ [] }
         ensures same_writer { lines.new.writer.ghost_name ≡ lines.old.writer.ghost_name }
+        ensures speech { N.speech network.new ≡ N.speech network.old }
         ensures live { OnOk result (IsLive self.new) }
         ensures empty { OnOk result (lines.new.text.items ≡ []) }
         ensures same { OnOk result (IsSameRun self.old.run self.new.run) }
@@ -187,6 +190,7 @@ where
         requires live { IsLive self.old }
         requires empty { lines.old.text.items ≡ [] }
         ensures same_writer { lines.new.writer.ghost_name ≡ lines.old.writer.ghost_name }
+        ensures speech { N.speech network.new ≡ N.speech network.old }
         ensures live { OnOk result (IsLive self.new) }
         ensures empty { OnOk result (lines.new.text.items ≡ []) }
         ensures same { OnOk result (IsSameRun self.old.run self.new.run) }
@@ -220,6 +224,7 @@ where
         requires live { IsLive self.old }
         requires empty { lines.old.text.items ≡ [] }
         ensures same_writer { lines.new.writer.ghost_name ≡ lines.old.writer.ghost_name }
+        ensures speech { N.speech network.new ≡ N.speech network.old }
         ensures live { OnOk result (IsLive self.new) }
         ensures empty { OnOk result (lines.new.text.items ≡ []) }
         ensures same { OnOk result (IsSameRun self.old.run self.new.run) }

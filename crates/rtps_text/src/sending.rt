@@ -31,6 +31,7 @@ pub fn send_answers<V: Drop, N: Exchange>(
     ensures ok { OnOk result (Sends (AreAnswersInOrder given.now)
         (N.traffic network.old) (N.traffic network.new) (given_sends given.now)) }
     ensures err { OnErr result (N.traffic network.new ≡ N.traffic network.old) }
+    ensures speech { N.speech network.new ≡ N.speech network.old }
 {
     for item in answers_in_order(alloc, given)? {
         send_item(network, item);
@@ -40,8 +41,9 @@ pub fn send_answers<V: Drop, N: Exchange>(
 
 /// Sends an item if it is an answer.
 fn send_item<V, N: Exchange>(network: &mut N, item: Item<'_, V>)
-    ensures { Grows (N.traffic network.old) (N.traffic network.new)
+    ensures sent { Grows (N.traffic network.old) (N.traffic network.new)
         (sendings (goes_out (report_of item.entry))) }
+    ensures speech { N.speech network.new ≡ N.speech network.old }
 {
     match item {
         Item::Answer(_, (_place, reply)) => {
@@ -53,8 +55,9 @@ fn send_item<V, N: Exchange>(network: &mut N, item: Item<'_, V>)
 
 /// Sends an answer to each of these locators.
 fn send_to<N: Exchange>(network: &mut N, to: &[Locator], octets: &[u8])
-    ensures { Grows (N.traffic network.old) (N.traffic network.new)
+    ensures sent { Grows (N.traffic network.old) (N.traffic network.new)
         (sendings (to_each to.now octets.now)) }
+    ensures speech { N.speech network.new ≡ N.speech network.old }
 {
     for locator in to {
         network.send(*locator, octets);

@@ -1,5 +1,5 @@
 -- What the calls of sockets announce.
-use Rattle.std.proofs.Common.{◌≡◌, ℕ, List, [], ◌∷◌, ◌++◌, Option, None, Some, inl, inr, refl, ap, ◌∙◌, append-nil}
+use Rattle.std.proofs.Common.{◌≡◌, ℕ, List, [], ◌∷◌, ◌++◌, Option, None, Some, inl, inr, refl, subst, ap, ◌∙◌, append-nil}
 use Rattle.std.proofs.lemmas.Grind.{flat_map-append}
 use Rattle.std.specs.Prelude.{Bool, true, false, Result, Ok, Err, take}
 use Rattle.std.specs.IoError.{error_kind}
@@ -38,7 +38,7 @@ announced_given old new to octets (Err fault) logs = absurd logs
 -- a call that is no announcement
 pub quiet_call : (a b : Option (List Call)) (call : Call) → announced_of call ≡ [] → Logs a b call
     → AnnouncesNothing a b
-quiet_call None b call none logs = tt
+quiet_call None b call none logs = logs
 quiet_call (Some x) None call none logs = absurd logs
 quiet_call (Some x) (Some y) call none logs =
     ap announced_in logs ∙ announced-append x call ∙ ap (λ l. announced_in x ++ l) none
@@ -47,7 +47,8 @@ quiet_call (Some x) (Some y) call none logs =
 -- two parts of the calls
 pub quiet_both : (a b c : Option (List Call)) → AnnouncesNothing a b → AnnouncesNothing b c
     → AnnouncesNothing a c
-quiet_both None b c first second = tt
+quiet_both None b c first second =
+    subst (λ (x : Option (List Call)). AnnouncesNothing x c) first second
 quiet_both (Some x) None c first second = absurd first
 quiet_both (Some x) (Some y) None first second = absurd second
 quiet_both (Some x) (Some y) (Some z) first second = second ∙ first

@@ -1,5 +1,5 @@
 -- The calls of sockets to the system, and what they are to a network (DDSI-RTPS 8.3.4, 9.6.1).
-use Rattle.std.specs.Prelude.{◌≡◌, ℕ, nat_eq, if◌then◌else◌, List, [], ◌∷◌, ◌++◌, ⊤, flat_map, Option, None, Some, option_map}
+use Rattle.std.specs.Prelude.{◌≡◌, ℕ, nat_eq, if◌then◌else◌, List, [], ◌∷◌, ◌++◌, flat_map, Option, None, Some, option_map}
 use Rattle.std.specs.Net.Addr.{ipv4_octets}
 use Rattle.std.specs.declared.io.ErrorKind.{ErrorKind}
 use Rattle.std.specs.declared.io.ErrorKind.TheVariants.{WouldBlock}
@@ -34,9 +34,9 @@ pub data Call : Type 0 where
   -- these octets were not sent to a locator, by sockets that are bound to this address
   Withholds : Ipv4Addr → Locator → List ℕ → Call
 
--- if the calls so far are known, this one was added to them
+-- if the calls so far are known, this one was added to them; a link that doesn't tell them never does
 abbrev pub Logs : Option (List Call) → Option (List Call) → Call → Type 0
-Logs None new call = ⊤
+Logs None new call = new ≡ None
 Logs (Some old) None call = ⊥
 Logs (Some old) (Some new) call = new ≡ old ++ call ∷ []
 
@@ -83,6 +83,6 @@ announced_in calls = flat_map announced_of calls
 
 -- if the calls so far are known, no announcement was added to them
 abbrev pub AnnouncesNothing : Option (List Call) → Option (List Call) → Type 0
-AnnouncesNothing None new = ⊤
+AnnouncesNothing None new = new ≡ None
 AnnouncesNothing (Some old) None = ⊥
 AnnouncesNothing (Some old) (Some new) = announced_in new ≡ announced_in old

@@ -5,6 +5,7 @@ ghost use Rattle.std.specs.Duration.{as_nanos};
 ghost use Rattle.std.specs.IoError.{error_kind};
 ghost use Rattle.std.specs.Time.{instant_nanos};
 ghost use Rattle.std.specs.declared.io.ErrorKind.TheVariants.{WouldBlock};
+ghost use Rattle.rtps_records.specs.Speech.{silence};
 ghost use Rattle.rtps_udp.specs.Calls.{FailsToReceive, FailsToWait, Logs, Receives, Withholds, traffic_in};
 ghost use Rattle.rtps_udp.specs.Faults.{IsBindFault};
 ghost use Rattle.rtps_udp.specs.Ports.{BindsBoth, BindsOne, ReadsMoment, ReceivesFirst, SendsAnnouncement, SendsAnswer, WaitsUntil};
@@ -188,6 +189,7 @@ impl<L: Link> Ports<L> {
 
 impl<L: Link> Receive for Ports<L> {
     ghost traffic = { λ ports. traffic_in (instant_nanos ports.start) (L.calls ports.link) };
+    ghost speech = { λ _. silence };
 
     fn receive(&mut self, room: &mut [u8]) -> io::Result<Option<usize>> {
         self.receive_next(room)

@@ -6,6 +6,7 @@ ghost use Rattle.std.specs.Net.Addr.{ipv4_octets};
 ghost use Rattle.std.specs.Time.{instant_nanos};
 ghost use Rattle.rtps_records.specs.Batches.{IsFull, records_in};
 ghost use Rattle.rtps_records.specs.Traffic.{Exhausted, Failed, Grows, Passed, Received, Waited};
+ghost use Rattle.rtps_records.specs.Speech.{silence};
 ghost use Rattle.rtps_udp.specs.Addresses.{is_answered as is_answered_by, is_bindable as is_bindable_at, last_index as last_index_of, localhost, port_of};
 ghost use Rattle.rtps_udp.specs.Calls.{AnnouncesNothing, FailsToWait, Logs, Withholds, traffic_in};
 ghost use Rattle.rtps_udp.specs.Faults.{IsBindFault, IsReceiveFault};
@@ -474,6 +475,7 @@ impl<L: Link> Sockets<L> {
 impl<L: Link> Receive for Sockets<L> {
     ghost traffic = { λ sockets.
         traffic_in (instant_nanos sockets.ports.start) (L.calls sockets.ports.link) };
+    ghost speech = { λ _. silence };
 
     /// Discovery's datagrams come first, so that a writer is known before its samples come.
     fn receive(&mut self, room: &mut [u8]) -> io::Result<Option<usize>> {

@@ -16,8 +16,10 @@ struct Coming<'a> {
 
 impl Receive for Coming<'_> {
     ghost use Rattle.std.specs.Prelude.{None};
+    ghost use Rattle.rtps_records.specs.Speech.{silence};
 
     ghost traffic = { λ _. None };
+    ghost speech = { λ _. silence };
 
     fn receive(&mut self, room: &mut [u8]) -> io::Result<Option<usize>> {
         let Some((length, rest)) = self.lengths.split_first() else {

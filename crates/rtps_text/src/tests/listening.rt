@@ -70,8 +70,10 @@ impl<'a> Wire<'a> {
 
 impl Receive for Wire<'_> {
     ghost use Rattle.std.specs.Prelude.{None};
+    ghost use Rattle.rtps_records.specs.Speech.{silence};
 
     ghost traffic = { λ _. None };
+    ghost speech = { λ _. silence };
 
     fn receive(&mut self, room: &mut [u8]) -> io::Result<Option<usize>> {
         let Some(octets) = self.datagrams.get(self.taken) else {
@@ -242,8 +244,10 @@ struct Counted<'a> {
 
 impl Receive for Counted<'_> {
     ghost use Rattle.std.specs.Prelude.{None};
+    ghost use Rattle.rtps_records.specs.Speech.{silence};
 
     ghost traffic = { λ _. None };
+    ghost speech = { λ _. silence };
 
     fn receive(&mut self, room: &mut [u8]) -> io::Result<Option<usize>> {
         self.wire.receive(room)

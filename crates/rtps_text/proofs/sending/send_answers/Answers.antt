@@ -24,9 +24,10 @@ loop-item-preserved g c =
     let grown : Grows first after (sendings (sends_of (map report_of done) ++ here)) =
     subst (Grows first after) (sendings_both (sends_of (map report_of done)) here)
     (Grows-trans first now after (sendings (sends_of (map report_of done))) (sendings here)
-    c.loop-item.invariant.grows c.send_item.ensures) in
+    c.loop-item.invariant.grows c.send_item.ensures.sent) in
     record {
       grows = subst (λ l. Grows first after (sendings l)) (sent ∙ ap sends_of (sym more)) grown;
+      speech = c.send_item.ensures.speech ∙ c.loop-item.invariant.speech;
       all = c.loop-item.invariant.all ∙ ap (λ l. map report_of done ++ l) c.in-Some.ensures.steps
           ∙ sym (append_assoc (map report_of done) (report_of item ∷ []) c.next.new.self)
           ∙ ap (λ l. l ++ c.next.new.self) (sym more);

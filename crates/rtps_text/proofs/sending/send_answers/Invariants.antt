@@ -8,5 +8,6 @@ abbrev pub invariant-loop-item : goal.invariant-loop-item
 invariant-loop-item g l = record {
   grows : Grows (g.N.Receive.traffic l.fn.network) (g.N.Receive.traffic l.network)
       (sendings (sends_of (map report_of l.yielded)));
+  speech : g.N.Receive.speech l.network ≡ g.N.Receive.speech l.fn.network;
   all : l.initial.item-iterator ≡ map report_of l.yielded ++ l.item-iterator;
 }

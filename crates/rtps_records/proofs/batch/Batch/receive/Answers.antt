@@ -1,4 +1,4 @@
-use Rattle.std.proofs.Common.{◌<◌, arith, length, rules}
+use Rattle.std.proofs.Common.{◌<◌, ◌∙◌, arith, length, rules}
 use Rattle.rtps_records.specs.Batches.{IsFull, records_in}
 use Rattle.rtps_records.proofs.Received.{ends, more}
 use Rattle.rtps_records.proofs.batch.Batch.receive.Goals as goal
@@ -16,6 +16,7 @@ loop-self-preserved g c =
     record {
       datagrams = c.in_ok-end.ensures.datagrams;
       few = omega (arith, next.0, room);
+      speech = c.receive_next.ensures.speech ∙ c.loop-self.invariant.speech;
       so_far = next.1;
     }
 
@@ -27,4 +28,5 @@ returns-in_default g c =
       stops = tt;
       few = rw last.0 c.loop-self.invariant.few;
       full = λ is. absurd {A = IsFull c.args.most c.receive_next.new.self} (c.in_default.not-More is);
+      speech = c.receive_next.ensures.speech ∙ c.loop-self.invariant.speech;
     }

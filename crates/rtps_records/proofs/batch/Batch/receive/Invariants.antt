@@ -7,6 +7,7 @@ abbrev pub invariant-loop-self : goal.invariant-loop-self
 invariant-loop-self g l = record {
   datagrams : l.self.tick ≡ None;
   few : length (records_in l.self) ≤ l.most;
+  speech : g.S.Receive.speech l.source ≡ g.S.Receive.speech l.fn.source;
   so_far : ReceivesAll (g.S.Receive.traffic l.fn.source) (g.S.Receive.traffic l.source) l.moment (records_in l.self) [];
 }
 

@@ -9,6 +9,7 @@ invariant-loop-self g l = record {
   live : IsLive l.self;
   empty : l.lines.text.items ≡ [];
   same_writer : l.lines.writer.ghost_name ≡ l.fn.lines.writer.ghost_name;
+  speech : g.N.Receive.speech l.network ≡ g.N.Receive.speech l.fn.network;
   same : IsSameRun l.fn.self.run l.self.run;
   goes_on : GoesOn g.C.Catalog.text_of g.C.Catalog.decoding l.fn.self l.self
       (g.N.Receive.traffic l.fn.network) (g.N.Receive.traffic l.network)

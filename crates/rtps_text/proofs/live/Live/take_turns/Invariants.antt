@@ -10,6 +10,7 @@ invariant-loop-turn g l = record {
   live : IsLive l.self;
   empty : l.lines.text.items ≡ [];
   same_writer : l.lines.writer.ghost_name ≡ l.fn.lines.writer.ghost_name;
+  speech : g.N.Receive.speech l.network ≡ g.N.Receive.speech l.fn.network;
   same : IsSameRun l.fn.self.run l.self.run;
   all : l.end ≡ More → l.self.left ≡ 0;
   none : ¬ (l.end ≡ Fault);

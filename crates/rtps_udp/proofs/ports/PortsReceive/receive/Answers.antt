@@ -1,4 +1,4 @@
-use Rattle.std.proofs.Common.{ap}
+use Rattle.std.proofs.Common.{ap, refl}
 use Rattle.std.specs.Time.{instant_nanos}
 use Rattle.rtps_udp.proofs.Calls.{seen_fault, seen_none, seen_some}
 use Rattle.rtps_udp.proofs.ports.PortsReceive.receive.Goals as goal
@@ -12,4 +12,5 @@ returns g c =
       some = seen_some _ _ same _ _ _ _ first;
       none = seen_none _ _ same _ _ _ _ first;
       fault = seen_fault _ _ same _ _ _ _ first;
+      speech = refl;
     }
