@@ -1,4 +1,5 @@
 mod Beginning
-mod Onward
+mod Joined
+pub mod Onward
 mod Taking
 mod Together

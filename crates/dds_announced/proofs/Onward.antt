@@ -9,7 +9,7 @@ use Rattle.rtps_announcer.specs.Standing.{AnnouncerView, HeardAll, IsSame}
 use Rattle.rtps_announcer.proofs.Running.{state_more}
 
 -- what some hearings send, and then others
-sends_more : (r : Rules) (s : State) (xs ys : List Hearing) → sends_run r s (xs ++ ys) ≡ sends_run r s xs ++ sends_run r (state_run r s xs) ys
+pub sends_more : (r : Rules) (s : State) (xs ys : List Hearing) → sends_run r s (xs ++ ys) ≡ sends_run r s xs ++ sends_run r (state_run r s xs) ys
 sends_more r s [] ys = refl
 sends_more r s (x ∷ xs) ys =
     let t = (step r x s).state in

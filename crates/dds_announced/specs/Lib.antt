@@ -2,3 +2,4 @@ pub mod Announced
 pub mod Announcing
 pub mod Hearings
 pub mod Speaker
+pub mod Voice

@@ -34,8 +34,10 @@ mod participant;
 mod speaker;
 #[cfg(test)]
 mod tests;
+mod voice;
 
 pub use announcement::Announcement;
 pub use announcing::{AnnounceFault, AnnouncedError, Announcing};
 pub use participant::AnnouncedParticipant;
 pub use speaker::Speaker;
+pub use voice::{Voice, VoiceFault};
