@@ -1,5 +1,6 @@
 mod Beginning
 mod Joined
+mod Moving
 pub mod Onward
 mod Taking
 mod Together

@@ -11,19 +11,22 @@
 //! let mut announcements = Vec::new(alloc);
 //! participant.tick_in_order(alloc, moment, &mut given, &mut announcements)?;
 //! participant.run_in_order(&rt, &workers, &datagrams, &mut given, &mut announcements)?;
+//! let (rank, outcome) = participant.add_reader(alloc, circles, &mut announcements)?;
 //! for announcement in &announcements {
 //!     // Send `announcement.octets` to the addresses of everyone, or to those of the peer.
 //! }
 //! ```
 //!
-//! Proved: all that the participant promises of a batch and of a tick, in its own words; that the
-//! announcer hears each datagram of the batch, in order, and that exactly what it says by then is
-//! put at the end of the list, as octets; that any error leaves that list as it was; and, in
-//! [`laws`], that both parts are where one list of inputs brings them. Nothing is written of what
-//! can't be said: of a rank that wasn't given, or of a number that no change has. Tested: octets
-//! that were written by hand, and that a participant that is found is greeted at once.
+//! Readers of ours come and go too. A change that the participant refuses isn't announced, and one
+//! that can't be announced for want of memory is refused before the participant is asked.
 //!
-//! The readers are those of the configuration: none comes or goes later.
+//! Proved: all that the participant promises of a batch, of a tick, and of a reader that comes or
+//! goes, in its own words; that the announcer hears each of them, in order, and that exactly what
+//! it says by then is put at the end of the list, as octets; that any error leaves that list as it
+//! was; and, in [`laws`], that both parts are where one list of inputs brings them. Nothing is
+//! written of what can't be said: of a rank that wasn't given, or of a number that no change has.
+//! Tested: octets that were written by hand, and that a participant that is found is greeted at
+//! once.
 #![tactic(auto)]
 
 mod announcement;
@@ -31,6 +34,7 @@ mod announcing;
 mod hearing;
 pub mod laws;
 mod participant;
+mod readers;
 mod speaker;
 #[cfg(test)]
 mod tests;
@@ -39,5 +43,6 @@ mod voice;
 pub use announcement::Announcement;
 pub use announcing::{AnnounceFault, AnnouncedError, Announcing};
 pub use participant::AnnouncedParticipant;
+pub use readers::ReaderError;
 pub use speaker::Speaker;
 pub use voice::{Voice, VoiceFault};

@@ -42,19 +42,21 @@ use std::thread::Threads;
 /// a list of the caller's what is to be sent by then.
 ///
 /// When a call is refused memory, in either part, both have failed: from then on each call returns
-/// [`EngineError::Failed`], and nothing is announced.
+/// [`EngineError::Failed`], and nothing is announced. One call is an exception: a reader that comes
+/// or goes and can't be announced for want of memory changes nothing
+/// ([`ReaderError::Unannounced`](crate::ReaderError::Unannounced)).
 #[derive(Drop)]
 pub struct AnnouncedParticipant<C: Catalog> {
-    participant: Participant<C>,
-    announcer: Announcer,
-    speaker: Speaker,
+    pub(crate) participant: Participant<C>,
+    pub(crate) announcer: Announcer,
+    pub(crate) speaker: Speaker,
     everyone: Locators,
     alloc: Global,
     /// The number of datagrams taken.
     taken: u64,
     /// Whether a call was refused memory. It is also set while one is processed, so that an error
     /// leaves it set.
-    failed: bool,
+    pub(crate) failed: bool,
 }
 
 impl<C: Catalog> Model for AnnouncedParticipant<C> {

@@ -65,8 +65,8 @@ impl Speaker {
         }
     }
 
-    /// Appends readers, in order. The error is that of the first that can't be appended; the readers
-    /// before it stay appended.
+    /// Appends readers, in order. The error is that of the first that can't be appended; the
+    /// readers before it stay appended.
     #[tactic(auto, unfolding(crate::specs::Speaker::own_readers))]
     pub fn add_all(&mut self, alloc: Global, readers: &[ReaderConfig]) -> Result<(), RecordFault>
         ensures added { OnOk result (self.new.readers.items ≡ self.old.readers.items

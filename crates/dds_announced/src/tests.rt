@@ -1,6 +1,8 @@
 //! A participant and its announcer, with octets written by hand from their formats (DDSI-RTPS 9.4,
 //! 9.6.3).
 
+mod readers;
+
 use crate::*;
 use dds_participant::Workers;
 use dds_topic::{Shape, Shapes};
@@ -98,6 +100,7 @@ fn square(alloc: Global) -> Result<ReaderConfig, Fail> {
     Ok(ReaderConfig::new(alloc, EntityId([0, 0, 1, 7]), "Square", "ShapeType")?.reliable())
 }
 
+/// With one reader, of squares.
 fn started(alloc: Global) -> Result<AnnouncedParticipant<Shapes>, Fail> {
     let mut config = Config::new(alloc, OWN);
     config.add_reader(square(alloc)?)?;
