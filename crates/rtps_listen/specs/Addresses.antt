@@ -13,9 +13,11 @@ use Rattle.rtps_listen.specs.declared.fault.ListenFault.TheVariants.{BadAddress,
 abbrev pub IsAddressText : Text → Type 0
 IsAddressText text = (address : Ipv4Addr) × IsIpv4Text text address
 
--- where options have sockets bound: in their domain, at their address
+-- where options have sockets bound: as those of the first participant of their domain, at their
+-- address
 pub record IsBindingOf (options : Options) (binding : Binding) : Type 0 where
   pub domain : binding.domain ≡ options.domain
+  pub participant : binding.participant ≡ 0
   pub address : IsIpv4Text options.address.now binding.address
 
 -- a bad address is refused, if nothing else was refused before

@@ -64,6 +64,7 @@ fn join<H: Network>(
     };
     let binding = Binding {
         domain: options.domain,
+        participant: 0,
         address,
     };
     match host.join(alloc, binding) {

@@ -30,7 +30,7 @@ returns-in_err-listen-clause-refused g c =
 pub returns-in_err-listen-clause-hears : goal.returns-in_err-listen-clause-hears
 returns-in_err-listen-clause-hears g c =
     hears c.args.options.now c.in_ok-config.config _ c.live_setup_of-setup.result true _ _ _ _ _ _ _ _ _ (Err _) _ c.in_ok-config.ensures.config (search rules) c.live_setup_of-setup.ensures
-    c.in_ok-network.ensures.joins c.in_ok-network.ensures.quiet refl c.insert-network.ensures.value c.in_err-listen.ensures (is_err _ _ c.from_residual-in_err-listen.ensures.1)
+    c.in_ok-network.ensures.joins c.in_ok-network.ensures.quiet refl c.insert-network.ensures.value c.in_err-listen.ensures.prints (is_err _ _ c.from_residual-in_err-listen.ensures.1)
 
 pub returns-then-options-clause-refused : goal.returns-then-options-clause-refused
 returns-then-options-clause-refused g c =
@@ -39,7 +39,7 @@ returns-then-options-clause-refused g c =
 pub returns-then-options-clause-hears : goal.returns-then-options-clause-hears
 returns-then-options-clause-hears g c =
     hears c.args.options.now c.in_ok-config.config _ c.live_setup_of-setup.result true _ _ _ _ _ _ _ _ _ (Ok tt) (Ok tt) c.in_ok-config.ensures.config (search rules) c.live_setup_of-setup.ensures
-    c.in_ok-network.ensures.joins c.in_ok-network.ensures.quiet refl c.insert-network.ensures.value c.in_ok-listen.ensures refl
+    c.in_ok-network.ensures.joins c.in_ok-network.ensures.quiet refl c.insert-network.ensures.value c.in_ok-listen.ensures.prints refl
 
 pub returns-in_err-listen-2-clause-refused : goal.returns-in_err-listen-2-clause-refused
 returns-in_err-listen-2-clause-refused g c =
@@ -49,7 +49,7 @@ returns-in_err-listen-2-clause-refused g c =
 pub returns-in_err-listen-2-clause-hears : goal.returns-in_err-listen-2-clause-hears
 returns-in_err-listen-2-clause-hears g c =
     hears c.args.options.now c.in_ok-config.config _ c.live_setup_of-setup-2.result false _ _ _ _ _ _ _ _ _ (Err _) _ c.in_ok-config.ensures.config (search rules) c.live_setup_of-setup-2.ensures
-    c.in_ok-network.ensures.joins c.in_ok-network.ensures.quiet refl c.insert-network.ensures.value c.in_err-listen-2.ensures (is_err _ _ c.from_residual-in_err-listen-2.ensures.1)
+    c.in_ok-network.ensures.joins c.in_ok-network.ensures.quiet refl c.insert-network.ensures.value c.in_err-listen-2.ensures.prints (is_err _ _ c.from_residual-in_err-listen-2.ensures.1)
 
 pub returns-clause-refused : goal.returns-clause-refused
 returns-clause-refused g c =
@@ -58,4 +58,4 @@ returns-clause-refused g c =
 pub returns-clause-hears : goal.returns-clause-hears
 returns-clause-hears g c =
     hears c.args.options.now c.in_ok-config.config _ c.live_setup_of-setup-2.result false _ _ _ _ _ _ _ _ _ (Ok tt) (Ok tt) c.in_ok-config.ensures.config (search rules) c.live_setup_of-setup-2.ensures
-    c.in_ok-network.ensures.joins c.in_ok-network.ensures.quiet refl c.insert-network.ensures.value c.in_ok-listen-2.ensures refl
+    c.in_ok-network.ensures.joins c.in_ok-network.ensures.quiet refl c.insert-network.ensures.value c.in_ok-listen-2.ensures.prints refl
