@@ -6,6 +6,7 @@ use Rattle.rtps_discovery.specs.declared.faults.ConfigFault.{ConfigFault}
 use Rattle.rtps_run.specs.Input.{Input}
 use Rattle.rtps_run.specs.declared.errors.EngineError.{EngineError}
 use Rattle.rtps_run.specs.declared.errors.EngineError.TheVariants.{BadReader, Failed, Full, NoMemory, NoReader, Spent}
+use Rattle.rtps_run.specs.declared.errors.StartError.{StartError}
 use Rattle.rtps_run.specs.declared.errors.StartError.TheVariants as start
 use Rattle.rtps_run.specs.Standing as engine
 use Rattle.rtps_announcer.specs.Announcing.{sends_run, state_run}
@@ -76,6 +77,11 @@ Begins {X} fault checked (Err (begin.Config f)) =
     (fault ≡ None) × engine.Starts {X = X} checked (Err (start.Config f))
 Begins fault checked (Err begin.TooLong) = fault ≡ None
 Begins fault checked (Err begin.NoMemory) = fault ≡ None
+
+-- why it can't be made, by why its participant can't be started
+abbrev pub refused_by : StartError → AnnouncedError
+refused_by (start.Config f) = begin.Config f
+refused_by start.NoMemory = begin.NoMemory
 
 -- What each call promises of both parts, as one: where one list of inputs brought them, that list
 -- with the inputs of the call brings them after it.

@@ -15,7 +15,7 @@ ghost use Rattle.dds_participant.specs.Decode.{octets_of};
 ghost use Rattle.dds_participant.specs.Handing.{IsHandedOn};
 ghost use Rattle.dds_participant.specs.Kept.{TakesBatch, TakesTick, counted};
 ghost use Rattle.dds_participant.specs.Ports.{NoneAttached};
-ghost use Rattle.dds_announced.specs.Announced.{Announces, Begins, IsSame, Refuses, seen};
+ghost use Rattle.dds_announced.specs.Announced.{Announces, Begins, IsSame, Refuses, refused_by, seen};
 ghost use Rattle.dds_announced.specs.Announcing.{fault_of};
 ghost use Rattle.dds_announced.specs.Hearings.{heard_at};
 ghost use Rattle.dds_announced.specs.Speaker.{announcements as announcements_of, own_readers};
@@ -78,6 +78,16 @@ impl<C: Catalog> Model for AnnouncedParticipant<C> {
         × (p.announcer.failed ≡ false) × (p.taken ≡ p.participant.engine.index) };
 }
 
+/// Returns why a participant that announces itself could not be made, by why it could not be started.
+fn refused(error: StartError) -> AnnouncedError
+    ensures { result ≡ refused_by error }
+{
+    match error {
+        StartError::Config(fault) => AnnouncedError::Config(fault),
+        StartError::NoMemory => AnnouncedError::NoMemory,
+    }
+}
+
 impl<C: Catalog> AnnouncedParticipant<C> {
     /// Returns a participant for this configuration, which announces itself and its readers so. It
     /// has received nothing, and has announced nothing.
@@ -136,8 +146,7 @@ impl<C: Catalog> AnnouncedParticipant<C> {
                 taken: 0,
                 failed: false,
             }),
-            Err(StartError::Config(fault)) => Err(AnnouncedError::Config(fault)),
-            Err(StartError::NoMemory) => Err(AnnouncedError::NoMemory),
+            Err(error) => Err(refused(error)),
         }
     }
 

@@ -58,11 +58,7 @@ impl Voice {
     /// where [`Announcing::fault`] finds a fault; [`VoiceFault::TooLong`] where a reader's record
     /// would have more than 60,000 octets; and [`VoiceFault::NoMemory`].
     #[tactic(auto, unfolding(crate::specs::Voice::IsVoiceFault))]
-    pub fn new(
-        alloc: Global,
-        config: &Config,
-        announcing: Announcing,
-    ) -> Result<Voice, VoiceFault>
+    pub fn new(alloc: Global, config: &Config, announcing: Announcing) -> Result<Voice, VoiceFault>
         ensures fault { IfErr result (IsVoiceFault (fault_of announcing)) }
         ensures heard { IfOk result (λ v. HasHeard (joined_by v) v.announcer) }
         ensures sound { IfOk result (λ v. v.failed ≡ false) }

@@ -31,10 +31,11 @@ more_then s t same None b c xs ys first second =
 more_then s t same (Some x) None c xs ys first second = absurd first
 more_then s t same (Some x) (Some y) None xs ys first second = absurd second
 more_then s t same (Some x) (Some y) (Some z) xs ys first second =
-    let here = subst (λ (u : ℕ). flat_map (traffic_of u) z ≡ flat_map (traffic_of u) y) same second.0 in
-    (here ∙ first.0,
-    second.1 ∙ ap (λ (l : List (Locator × List ℕ)). l ++ ys) first.1
-    ∙ append_assoc (announced_in x) xs ys)
+    let here = subst (λ (u : ℕ). flat_map (traffic_of u) z ≡ flat_map (traffic_of u) y) same second.0 in (
+      here ∙ first.0,
+      second.1 ∙ ap (λ (l : List (Locator × List ℕ)). l ++ ys) first.1
+          ∙ append_assoc (announced_in x) xs ys,
+    )
 
 -- one announcement, whatever its outcome
 logged : (s : ℕ) (a b : Option (List Call)) (to : Locator) (octets : List ℕ)

@@ -141,12 +141,14 @@ spoken_on v w bound m n t more told said hs h same at heard speaks =
     by_failed true is whole grows =
         let (rest, front) = h.front in
         let x = said_by (manner_of v bound) (announcements v.speaker (sends_run v.announcer.rules
-        (state_run v.announcer.rules first (heard_by (manner_of v bound) t)) hs)) in
-        (rest ++ x, grows
-        ∙ ap (λ (l : List (Locator × List ℕ)). l ++ x) front
-        ∙ append_assoc told rest x
-        ∙ ap (λ (l : List (Locator × List ℕ)). l ++ (rest ++ x))
-        (sym (ap (λ (l : List (Locator × List ℕ)). told ++ l) (speaks.none is) ∙ append-nil told)))
+        (state_run v.announcer.rules first (heard_by (manner_of v bound) t)) hs)) in (
+          rest ++ x,
+          grows
+              ∙ ap (λ (l : List (Locator × List ℕ)). l ++ x) front
+              ∙ append_assoc told rest x
+              ∙ ap (λ (l : List (Locator × List ℕ)). l ++ (rest ++ x))
+              (sym (ap (λ (l : List (Locator × List ℕ)). told ++ l) (speaks.none is) ∙ append-nil told)),
+        )
 
 -- the same of the calls of a link, which may not tell them
 pub spoken_by : (v w : Voice) (bound : List ℕ) (m n s : ℕ) (a b c : Option (List Call))

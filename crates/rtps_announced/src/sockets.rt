@@ -130,6 +130,7 @@ impl<L: Link> AnnouncedSockets<L> {
 impl<L: Link> Receive for AnnouncedSockets<L> {
     ghost traffic = { λ s.
         traffic_in (instant_nanos s.sockets.ports.start) (L.calls s.sockets.ports.link) };
+
     ghost speech = { λ s. speech_of (manner_of s.voice (ipv4_octets s.sockets.binding.address)) };
 
     /// Discovery's datagrams come first, so that a writer is known before its samples come. What is

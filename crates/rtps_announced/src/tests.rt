@@ -19,13 +19,7 @@ const LEASE: Duration = Duration {
 
 /// The sockets of the first participant of the domain whose ports are free.
 fn bound(rt: &HostRuntime) -> Result<Sockets<Machine<'_, HostRuntime, HostRuntime>>, Fail> {
-    Ok(Sockets::bind_first(
-        rt,
-        rt,
-        rt.alloc(),
-        DOMAIN,
-        Ipv4Addr::LOCALHOST,
-    )?)
+    Ok(Sockets::bind_first(rt, rt, rt.alloc(), DOMAIN, Ipv4Addr::LOCALHOST)?)
 }
 
 fn config(alloc: Global, own: u8) -> Result<Config, Fail> {
@@ -50,7 +44,10 @@ fn a_participant_comes_and_leaves(rt: HostRuntime) -> Result<(), Fail> {
     let mut room = [0; 2_000];
     other.wait()?;
     assert_eq!(rt; other.receive(&mut room)?, Some(164));
-    assert_eq!(rt; &room[..20], b"RTPS\x02\x05\x00\x00\x0b\x0b\x0b\x0b\x0b\x0b\x0b\x0b\x0b\x0b\x0b\x0b".as_slice());
+    assert_eq!(rt;
+        &room[..20],
+        b"RTPS\x02\x05\x00\x00\x0b\x0b\x0b\x0b\x0b\x0b\x0b\x0b\x0b\x0b\x0b\x0b".as_slice()
+    );
     let [low, high] = here.port.to_le_bytes();
     assert_eq!(rt; &room[92..96], [low, high, 0, 0].as_slice());
     assert_eq!(rt; &room[108..112], [127, 0, 0, 1].as_slice());

@@ -189,6 +189,7 @@ impl<L: Link> Ports<L> {
 
 impl<L: Link> Receive for Ports<L> {
     ghost traffic = { λ ports. traffic_in (instant_nanos ports.start) (L.calls ports.link) };
+
     ghost speech = { λ _. silence };
 
     fn receive(&mut self, room: &mut [u8]) -> io::Result<Option<usize>> {

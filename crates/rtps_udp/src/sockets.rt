@@ -475,6 +475,7 @@ impl<L: Link> Sockets<L> {
 impl<L: Link> Receive for Sockets<L> {
     ghost traffic = { λ sockets.
         traffic_in (instant_nanos sockets.ports.start) (L.calls sockets.ports.link) };
+
     ghost speech = { λ _. silence };
 
     /// Discovery's datagrams come first, so that a writer is known before its samples come.

@@ -19,6 +19,7 @@ impl Receive for Coming<'_> {
     ghost use Rattle.rtps_records.specs.Speech.{silence};
 
     ghost traffic = { λ _. None };
+
     ghost speech = { λ _. silence };
 
     fn receive(&mut self, room: &mut [u8]) -> io::Result<Option<usize>> {

@@ -73,6 +73,7 @@ impl Receive for Wire<'_> {
     ghost use Rattle.rtps_records.specs.Speech.{silence};
 
     ghost traffic = { λ _. None };
+
     ghost speech = { λ _. silence };
 
     fn receive(&mut self, room: &mut [u8]) -> io::Result<Option<usize>> {
@@ -247,6 +248,7 @@ impl Receive for Counted<'_> {
     ghost use Rattle.rtps_records.specs.Speech.{silence};
 
     ghost traffic = { λ _. None };
+
     ghost speech = { λ _. silence };
 
     fn receive(&mut self, room: &mut [u8]) -> io::Result<Option<usize>> {

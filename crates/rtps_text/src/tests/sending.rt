@@ -21,6 +21,7 @@ impl Receive for Kept {
     ghost use Rattle.rtps_records.specs.Speech.{silence};
 
     ghost traffic = { λ _. None };
+
     ghost speech = { λ _. silence };
 
     fn receive(&mut self, _room: &mut [u8]) -> io::Result<Option<usize>> {

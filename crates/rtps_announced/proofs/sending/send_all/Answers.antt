@@ -28,28 +28,30 @@ loop-announcement-preserved g c =
     elim c.match-announcement.branch [
       | in-Everyone w ↦
           subst (λ x. AnnouncesMore t b (g.L.Link.calls x.ports.link) (addressed everyone here item)
-          × IsSameSockets c.loop-announcement.sockets x) (sym w.sockets-is)
-          (subst (λ (d : Destination). AnnouncesMore t b
-          (g.L.Link.calls w.send_to_everyone.new.sockets.ports.link)
-          (to_each (places_of everyone here d) item.octets)) (sym w.in-Everyone.is)
-          (subst (λ (o : List ℕ). AnnouncesMore t b
-          (g.L.Link.calls w.send_to_everyone.new.sockets.ports.link) (to_each everyone o))
-          c.as_slice-octets.ensures w.send_to_everyone.ensures.announced),
-          w.send_to_everyone.ensures.same)
+          × IsSameSockets c.loop-announcement.sockets x) (sym w.sockets-is) (
+            subst (λ (d : Destination). AnnouncesMore t b
+                (g.L.Link.calls w.send_to_everyone.new.sockets.ports.link)
+                (to_each (places_of everyone here d) item.octets)) (sym w.in-Everyone.is)
+                (subst (λ (o : List ℕ). AnnouncesMore t b
+                (g.L.Link.calls w.send_to_everyone.new.sockets.ports.link) (to_each everyone o))
+                c.as_slice-octets.ensures w.send_to_everyone.ensures.announced),
+            w.send_to_everyone.ensures.same,
+          )
       | in-Peer w ↦
           subst (λ x. AnnouncesMore t b (g.L.Link.calls x.ports.link) (addressed everyone here item)
-          × IsSameSockets c.loop-announcement.sockets x) (sym w.sockets-is)
-          (subst (λ (d : Destination). AnnouncesMore t b
-          (g.L.Link.calls w.send_to_peer.new.sockets.ports.link)
-          (to_each (places_of everyone here d) item.octets)) (sym w.in-Peer.is)
-          (subst (λ (o : List ℕ). AnnouncesMore t b
-          (g.L.Link.calls w.send_to_peer.new.sockets.ports.link)
-          (to_each (filter (is_answered here) w.in-Peer.to) o)) c.as_slice-octets.ensures
-          (subst (λ (l : List Locator). AnnouncesMore t b
-          (g.L.Link.calls w.send_to_peer.new.sockets.ports.link)
-          (to_each (filter (is_answered here) l) c.as_slice-octets.result.now))
-          w.as_slice.ensures.items w.send_to_peer.ensures.announced)),
-          w.send_to_peer.ensures.same)
+          × IsSameSockets c.loop-announcement.sockets x) (sym w.sockets-is) (
+            subst (λ (d : Destination). AnnouncesMore t b
+                (g.L.Link.calls w.send_to_peer.new.sockets.ports.link)
+                (to_each (places_of everyone here d) item.octets)) (sym w.in-Peer.is)
+                (subst (λ (o : List ℕ). AnnouncesMore t b
+                (g.L.Link.calls w.send_to_peer.new.sockets.ports.link)
+                (to_each (filter (is_answered here) w.in-Peer.to) o)) c.as_slice-octets.ensures
+                (subst (λ (l : List Locator). AnnouncesMore t b
+                (g.L.Link.calls w.send_to_peer.new.sockets.ports.link)
+                (to_each (filter (is_answered here) l) c.as_slice-octets.result.now))
+                w.as_slice.ensures.items w.send_to_peer.ensures.announced)),
+            w.send_to_peer.ensures.same,
+          )
     ] in
     record {
       announced = subst (λ (l : List (Locator × List ℕ)). AnnouncesMore s a e l)

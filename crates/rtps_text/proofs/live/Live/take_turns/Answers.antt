@@ -94,7 +94,8 @@ loop-turn-preserved g c =
       live = c.in_ok-end.ensures.live;
       empty = c.in_ok-end.ensures.empty;
       same_writer = c.take_all.ensures.same_writer ∙ c.pass.ensures.same_writer ∙ inv.same_writer;
-      speech = c.take_all.ensures.speech ∙ c.pass.ensures.speech ∙ inv.speech;
+      speech = c.take_all.ensures.speech ∙ c.pass.ensures.speech ∙ c.in-Ok.ensures.speech
+          ∙ inv.speech;
       same = same_run _ _ _ (same_run _ _ _ inv.same c.in_ok-pass.ensures.same)
           c.in_ok-end.ensures.same;
       all = c.in_ok-end.ensures.all;
