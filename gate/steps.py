@@ -258,7 +258,7 @@ def try_edits(gate, crate, folders, jobs):
     edits, faults = read_edits(crate, folders)
     done, checks, total = Done(failed=faults), 0, joined_sum(base, *map(repr, edits))
     left = [edit for edit in edits if not gate.kept.passed(f"{crate.name}/{edit.name}", joined_sum(base, repr(edit)))]
-    if left and gate.record.stands(crate, "edits", total) == len(edits):
+    if left and not faults and gate.record.stands(crate, "edits", total) == len(edits):
         gate.record.note(crate, "edits", len(edits), total, taken=len(left))
         return Done(len(edits) - len(left), says=f"{len(edits)} refused, {len(left)} of them by the record")
     groups = editing.groups_of(left, crate.folder)

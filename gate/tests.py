@@ -173,6 +173,9 @@ class Repository(unittest.TestCase):
         git("add", record.FILE), git("commit", "-qm", "second")
         self.assertEqual([(0, 0, 2), (2, 2, 0), (2, 2, 0), (2, 2, 0), (2, 2, 0)],
                          [tried("HEAD"), tried("HEAD~"), tried(""), tried("HEAD", is_sampled=True), tried("HEAD", toolchain="kit 2")])
+        self.write("crates/low/must-fail/note.txt", "a file that is no edit has them tried, and fails")
+        self.assertEqual((1, 1, 1), tried("HEAD"))
+        (self.top / "crates/low/must-fail/note.txt").unlink()
         self.write("crates/low/must-fail/one.edit", "# by: one\nfile: src/lib.rt\nold: octet + STEP\nnew: STEP\n")
         self.assertEqual((1, 1, 1), tried("HEAD"))
         said = tasks.Ran(0, "fn low::one: proved", 1.0)
