@@ -56,28 +56,38 @@ fn a_participant_comes_and_leaves(rt: HostRuntime) -> Result<(), Fail> {
     Ok(())
 }
 
-/// Of two participants that announce themselves to each other, each greets the other, and neither
-/// announces to a group.
+/// A participant greets one that has writers, and not one that has readers alone, as itself: of two
+/// such each would greet the other for its greeting, without end.
 #[test]
-fn participants_find_each_other(rt: HostRuntime) -> Result<(), Fail> {
+fn a_participant_with_writers_is_greeted(rt: HostRuntime) -> Result<(), Fail> {
     let alloc = rt.alloc();
+    let mut other = bound(&rt)?;
+    let everyone = Locators::one(alloc, other.locator(Purpose::Metatraffic));
     let first = bound(&rt)?;
-    let second = bound(&rt)?;
-    let at_first = Locators::one(alloc, first.locator(Purpose::Metatraffic));
+    let at_first = first.locator(Purpose::Metatraffic);
     let nobody = Locators::new(Vec::new(alloc));
     let mut first = AnnouncedSockets::new(alloc, first, &config(alloc, 11)?, LEASE, nobody)?;
-    let mut second = AnnouncedSockets::new(alloc, second, &config(alloc, 12)?, LEASE, at_first)?;
+    let second = bound(&rt)?;
+    let mut second = AnnouncedSockets::new(alloc, second, &config(alloc, 12)?, LEASE, everyone)?;
     let mut room = [0; 2_000];
-    // The second announces itself, and the first greets it: a farewell, itself, its reader and a
-    // HEARTBEAT.
     second.wait()?;
-    first.wait()?;
-    assert!(rt; matches!(first.receive(&mut room)?, Some(_)));
-    second.wait()?;
-    let mut received = 0;
-    while let Some(_) = second.receive(&mut room)? {
-        received += 1;
+    other.wait()?;
+    assert_eq!(rt; other.receive(&mut room)?, Some(164));
+    // The builtin endpoints of one that has readers alone, and of one that announces writers too. It
+    // is greeted by a farewell, the participant, its reader and a HEARTBEAT.
+    assert_eq!(rt; room[156], 0x3b);
+    for (endpoints, greetings) in [(0x3b, 0), (0x3f, 4)] {
+        room[156] = endpoints;
+        other.announce(at_first, &room[..164])?;
+        first.wait()?;
+        let mut heard = [0; 2_000];
+        assert_eq!(rt; first.receive(&mut heard)?, Some(164));
+        second.wait()?;
+        let mut received = 0;
+        while let Some(_) = second.receive(&mut heard)? {
+            received += 1;
+        }
+        assert_eq!(rt; received, greetings);
     }
-    assert_eq!(rt; received, 4);
     Ok(())
 }

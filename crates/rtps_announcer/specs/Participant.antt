@@ -17,13 +17,17 @@ use Rattle.rtps_announcer.specs.declared.hearing.Hearing.TheVariants.{Comes, Lea
 abbrev pub is_unicast : Locator → Bool
 is_unicast l = nat_le 1 (slice_index l.address 0) && nat_le (slice_index l.address 0) 223
 
--- What a record says of its participant. Bit 5 of the builtin endpoint set is the reader of
--- readers.
+-- It hears of readers, for writers of its own: bit 2 of the builtin endpoint set is the announcer of
+-- writers, and bit 5 the reader of readers (9.3.2.12).
+abbrev pub hears_readers : Option ℕ → Bool
+hears_readers set = has_bit 2 set && has_bit 5 set
+
+-- what a record says of its participant
 abbrev pub facts_of : Settings → Facts
 facts_of s = record {
   to = take 4 (filter is_unicast s.metatraffic_unicast);
   lease = lease_of (unwrap_or s.lease default_lease);
-  hears = has_bit 5 s.builtin_endpoints;
+  hears = hears_readers s.builtin_endpoints;
 }
 
 -- a participant announces itself, or leaves; nothing, where discovery takes no announcement

@@ -11,7 +11,7 @@ pub struct Facts {
     pub to: PeerLocators,
     /// How many milliseconds it may keep silent; `None` if its lease never ends.
     pub lease: Option<u64>,
-    /// Whether it has a reader of readers (DDSI-RTPS 9.3.2.12).
+    /// Whether it has an announcer of writers, and a reader of readers (DDSI-RTPS 9.3.2.12).
     pub hears: bool,
 }
 

@@ -30,7 +30,10 @@ const DEFAULT_LEASE: Duration = Duration {
     fraction: 0,
 };
 
-/// The bit of the reader of readers in a builtin endpoint set (DDSI-RTPS 9.3.2.12).
+/// The bits of the announcer of writers and of the reader of readers in a builtin endpoint set
+/// (DDSI-RTPS 9.3.2.12).
+const PUBLICATIONS_ANNOUNCER: u32 = 2;
+
 const SUBSCRIPTIONS_DETECTOR: u32 = 5;
 
 /// Whether a locator has an address of one interface: not of a multicast group, not the broadcast
@@ -77,13 +80,19 @@ pub fn lease_of(lease: Duration) -> Option<u64>
     Some(milliseconds(lease))
 }
 
-/// Whether a builtin endpoint set has the reader of readers. A participant without a set has all
-/// endpoints.
+/// Whether a builtin endpoint set has the announcer of writers and the reader of readers. A
+/// participant without a set has all endpoints.
+///
+/// One that has no writers has no use for our readers. Of two participants that greet whoever they
+/// find with a farewell first, each would find the other anew by each greeting, without end: of
+/// ours, which announce no writers, none greets another one.
 fn hears(set: Option<u32>) -> bool
-    ensures { result ≡ announcement.has_bit 5 set }
+    ensures { result ≡ heard.hears_readers set }
 {
     match set {
-        Some(set) => (set >> SUBSCRIPTIONS_DETECTOR) % 2 == 1,
+        Some(set) => {
+            (set >> PUBLICATIONS_ANNOUNCER) % 2 == 1 && (set >> SUBSCRIPTIONS_DETECTOR) % 2 == 1
+        }
         None => true,
     }
 }

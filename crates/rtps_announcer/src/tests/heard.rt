@@ -18,8 +18,8 @@ const TO_US: [u8; 16] = [
 
 const TO_OTHERS: [u8; 16] = [0x0e, 1, 12, 0, 7, 7, 7, 7, 7, 7, 7, 7, 7, 7, 7, 7];
 
-/// The DATA of SPDP: its guid, two locators, a lease of one and a half seconds, and a set with bit
-/// 5.
+/// The DATA of SPDP: its guid, two locators, a lease of one and a half seconds, and a set with the
+/// bits 2 and 5.
 const RECORD: [u8; 128] = [
     0x15, 0x05, 124, 0, // DATA, E and D
     0, 0, 16, 0, 0, 1, 0, 0xc7, 0, 1, 0, 0xc2, // to 000100c7, from 000100c2
@@ -30,7 +30,7 @@ const RECORD: [u8; 128] = [
     1, // a group, which isn't kept
     0x32, 0, 24, 0, 1, 0, 0, 0, 0xf2, 0x1c, 0, 0, 0, 0, 0, 0, 0, 0, 0, 0, 0, 0, 0, 0, 10, 9, 0, 2, // 10.9.0.2:7410
     0x02, 0, 8, 0, 1, 0, 0, 0, 0, 0, 0, 0x80, // the lease
-    0x58, 0, 4, 0, 0x20, 0, 0, 0, // the set
+    0x58, 0, 4, 0, 0x24, 0, 0, 0, // the set
     1, 0, 0, 0,
 ];
 
@@ -86,6 +86,13 @@ fn a_record_is_heard(rt: HostRuntime) -> Result<(), Fail> {
     for len in 0..octets.len() {
         let cut = octets.get(..len).ok_or("a prefix")?;
         assert!(rt; hearings(rt.alloc(), OWN, cut)?.is_empty());
+    }
+    // A participant that announces no writers, as ours, doesn't hear of readers for them.
+    let mut octets = octets;
+    octets[140] = 0x3b;
+    match hearings(rt.alloc(), OWN, octets.as_slice())?.as_slice() {
+        [Hearing::Comes(_, facts)] => assert!(rt; !facts.hears),
+        _ => return Err(Fail::new("one record")),
     }
     Ok(())
 }
