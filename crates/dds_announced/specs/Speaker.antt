@@ -1,16 +1,19 @@
 -- What is said, as octets: each thing in one datagram (DDSI-RTPS 8.3.7, 8.5.3, 8.5.4).
-use Rattle.std.specs.Prelude.{ℕ, ◌^◌, nat_le, List, Option, Some, None, map, option_and_then, option_to_list, slice_get, if◌then◌else◌}
-use Rattle.std.specs.List.{flat_map}
+use Rattle.std.specs.Prelude.{◌≡◌, ℕ, ◌^◌, nat_le, nat_lt, length, Bool, true, List, Option, Some, None, map, option_and_then, option_to_list, slice_get, if◌then◌else◌}
+use Rattle.std.specs.List.{flat_map, list_any}
 use Rattle.std.specs.Option.{option_map}
 use Rattle.rtps_types.specs.declared.identity.GuidPrefix.{GuidPrefix}
 use Rattle.rtps_types.specs.SequenceNumber.{number_of}
 use Rattle.rtps_discovery.specs.declared.config.ReaderConfig.{ReaderConfig}
 use Rattle.rtps_discovery.specs.Known.{Wish}
 use Rattle.rtps_discovery.specs.Start.{wish_of}
+use Rattle.rtps_announcement.specs.Fault.{longest}
 use Rattle.rtps_announcement.specs.Gap.{gap_octets}
 use Rattle.rtps_announcement.specs.Heartbeat.{heartbeat_octets}
 use Rattle.rtps_announcement.specs.Participant.{participant_gone_octets, participant_octets}
 use Rattle.rtps_announcement.specs.Reader.{reader_gone_octets, reader_octets, reader_record}
+use Rattle.rtps_announcement.specs.declared.fault.RecordFault.{RecordFault}
+use Rattle.rtps_announcement.specs.declared.fault.RecordFault.TheVariants.{NoMemory, TooLong}
 use Rattle.rtps_announcer.specs.declared.said.Change.{Change}
 use Rattle.rtps_announcer.specs.declared.said.Change.TheVariants.{Asks, Ends}
 use Rattle.rtps_announcer.specs.declared.said.Destination.{Destination}
@@ -29,6 +32,16 @@ own_reader own r = record { entity = r.entity; announced = reader_record own r }
 -- the readers of a configuration, by rank
 unfoldable pub own_readers : GuidPrefix → List ReaderConfig → List OwnReader
 own_readers own readers = map (λ r. own_reader own (wish_of r)) readers
+
+-- the record of some reader is too long for a datagram
+abbrev pub has_long : GuidPrefix → List ReaderConfig → Bool
+has_long own readers =
+    list_any (λ r. nat_lt longest (length (reader_record own (wish_of r)))) readers
+
+-- where readers are refused for the length of a record, one of them has one that is too long
+abbrev pub BlamesLong : GuidPrefix → List ReaderConfig → RecordFault → Type 0
+BlamesLong own readers TooLong = has_long own readers ≡ true
+BlamesLong own readers NoMemory = Unit {0}
 
 -- that a reader is there, or that it has gone
 abbrev pub change_octets : GuidPrefix → GuidPrefix → ℕ → Change → OwnReader → List ℕ

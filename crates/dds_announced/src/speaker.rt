@@ -1,10 +1,10 @@
 //! What is said, as octets.
 
-ghost use Rattle.std.specs.Prelude.{◌≡◌, ◌+◌, ◌≤◌, ◌++◌, ◌∷◌, [], IfOk, OnErr, OnOk, vec_capacity, vec_len};
+ghost use Rattle.std.specs.Prelude.{◌≡◌, ◌+◌, ◌≤◌, ◌++◌, ◌∷◌, [], IfErr, IfOk, OnErr, OnOk, vec_capacity, vec_len};
 ghost use Rattle.rtps_discovery.specs.Start.{wish_of};
 ghost use Rattle.rtps_announcement.specs.Fault.{IsTooLong};
 ghost use Rattle.rtps_announcement.specs.Reader.{reader_record};
-ghost use Rattle.dds_announced.specs.Speaker.{announced, announcements as announcements_of, beat_octets, own_reader, own_readers, prefix_of, said_octets, told_octets, void_octets};
+ghost use Rattle.dds_announced.specs.Speaker.{BlamesLong, announced, announcements as announcements_of, beat_octets, own_reader, own_readers, prefix_of, said_octets, told_octets, void_octets};
 
 use crate::announcement::Announcement;
 use rtps_announcement::{
@@ -71,6 +71,7 @@ impl Speaker {
     pub fn add_all(&mut self, alloc: Global, readers: &[ReaderConfig]) -> Result<(), RecordFault>
         ensures added { OnOk result (self.new.readers.items ≡ self.old.readers.items
             ++ own_readers self.old.own readers.now) }
+        ensures too_long { IfErr result (BlamesLong self.old.own readers.now) }
         ensures same { (self.new.own ≡ self.old.own) × (self.new.here ≡ self.old.here) }
     {
         for reader in readers {

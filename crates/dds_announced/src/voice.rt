@@ -1,13 +1,13 @@
 //! What our participant says of itself and of its readers.
 
-ghost use Rattle.std.specs.Prelude.{◌≡◌, ◌∷◌, [], IfErr, IfOk, IsErr, OnErr, false, true};
+ghost use Rattle.std.specs.Prelude.{◌≡◌, ◌∷◌, [], IfErr, IfOk, IsErr, None, OnErr, OnOk, false, true};
 ghost use Rattle.rtps_announcer.specs.Announcing.{farewell};
 ghost use Rattle.rtps_announcer.specs.Hearing.{hearings_of};
 ghost use Rattle.rtps_announcer.specs.Standing.{StandsAt as HasHeard};
 ghost use Rattle.rtps_announcer.specs.declared.hearing.Hearing.{Hearing};
 ghost use Rattle.dds_announced.specs.Announcing.{fault_of};
 ghost use Rattle.dds_announced.specs.Speaker.{announcements as announcements_of, own_readers};
-ghost use Rattle.dds_announced.specs.Voice.{IsSameVoice, IsVoiceFault, Says, joined_by};
+ghost use Rattle.dds_announced.specs.Voice.{BlamesReader, IsSameVoice, IsVoiceFault, Says, joined_by};
 
 use crate::announcement::Announcement;
 use crate::announcing::{AnnounceFault, Announcing};
@@ -59,7 +59,10 @@ impl Voice {
     /// would have more than 60,000 octets; and [`VoiceFault::NoMemory`].
     #[tactic(auto, unfolding(crate::specs::Voice::IsVoiceFault))]
     pub fn new(alloc: Global, config: &Config, announcing: Announcing) -> Result<Voice, VoiceFault>
+        ensures begins { OnOk result (fault_of announcing ≡ None) }
         ensures fault { IfErr result (IsVoiceFault (fault_of announcing)) }
+        ensures too_long { IfErr result
+            (BlamesReader config.now.own config.now.readers.items) }
         ensures heard { IfOk result (λ v. HasHeard (joined_by v) v.announcer) }
         ensures sound { IfOk result (λ v. v.failed ≡ false) }
         ensures rules { IfOk result (λ v. (v.announcer.rules ≡ announcing.rules)
