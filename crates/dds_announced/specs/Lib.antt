@@ -1,5 +1,6 @@
 pub mod Announced
 pub mod Announcing
+pub mod Found
 pub mod Hearings
 pub mod Readers
 pub mod Speaker

@@ -23,10 +23,10 @@
 //! Proved: all that the participant promises of a batch, of a tick, and of a reader that comes or
 //! goes, in its own words; that the announcer hears each of them, in order, and that exactly what
 //! it says by then is put at the end of the list, as octets; that any error leaves that list as it
-//! was; and, in [`laws`], that both parts are where one list of inputs brings them. Nothing is
-//! written of what can't be said: of a rank that wasn't given, or of a number that no change has.
-//! Tested: octets that were written by hand, and that a participant that is found is greeted at
-//! once.
+//! was; and, in [`laws`], that both parts are where one list of inputs brings them, and that the
+//! announcer's peers are participants that the run knows. Nothing is written of what can't be said:
+//! of a rank that wasn't given, or of a number that no change has. Tested: octets that were written
+//! by hand, and that a participant that is found is greeted at once.
 #![tactic(auto)]
 
 mod announcement;
