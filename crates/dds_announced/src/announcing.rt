@@ -1,18 +1,34 @@
 //! How a participant is to announce itself.
 
-ghost use Rattle.std.specs.Prelude.{◌≡◌};
-ghost use Rattle.dds_announced.specs.Announcing.{fault_of, is_bad_place, outlasts};
+ghost use Rattle.std.specs.Prelude.{◌≡◌, ◌≤◌};
+ghost use Rattle.dds_announced.specs.Announcing.{announcing_in, discovery_group, fault_of, is_bad_place, outlasts};
 
 use rtps_announcement::Presence;
 use rtps_announcer::{Rules, is_unicast, lease_of};
 use rtps_discovery::ConfigFault;
-use rtps_types::{Locator, Locators};
+use rtps_types::{Duration, Locator, Locators};
+use std::alloc::Global;
 use thiserror::Error;
 
 /// The most addresses of everyone.
 const MOST: usize = 64;
 
-/// How a participant is to announce itself (DDSI-RTPS 8.5.3).
+/// How long a participant may keep silent, if nothing else is asked for.
+const LEASE: Duration = Duration {
+    seconds: 10,
+    fraction: 0,
+};
+
+/// How a participant is to announce itself (DDSI-RTPS 8.5.3). [`Announcing::new`] has a default for
+/// all but where it is reached.
+///
+/// ```
+/// let announcing = Announcing::new(alloc, 0, discovery, user)
+///     .period(500)
+///     .lease(lease)
+///     .everyone(everyone);
+/// let mut participant = AnnouncedParticipant::new(alloc, config, announcing, Shapes)?;
+/// ```
 #[derive(Debug, Drop)]
 pub struct Announcing {
     /// How often is announced and reminded, and for how many; as a rule [`Rules::DEFAULT`].
@@ -55,7 +71,64 @@ pub enum AnnouncedError {
     Config(ConfigFault),
 }
 
+/// Returns the group at which the participants of a domain, 0 to 232, hear of each other:
+/// 239.255.0.1, at the multicast port of the domain's discovery (DDSI-RTPS 9.6.1.1, 9.6.1.4).
+pub fn discovery_group(domain: u16) -> Locator
+    requires { domain ≤ 232 }
+    ensures { result ≡ discovery_group domain }
+{
+    Locator {
+        port: 7_400 + 250 * domain,
+        address: [239, 255, 0, 1],
+    }
+}
+
 impl Announcing {
+    /// Returns how a participant of a domain, 0 to 232, announces itself whose discovery and whose
+    /// readers are reached at these locators: each second, with a lease of ten seconds, to the group
+    /// of the domain ([`discovery_group`]), by the numbers of [`Rules::DEFAULT`]. No memory is
+    /// taken.
+    pub fn new(alloc: Global, domain: u16, discovery: Locator, user: Locator) -> Announcing
+        requires { domain ≤ 232 }
+        ensures { result ≡ announcing_in domain discovery user }
+    {
+        Announcing {
+            rules: Rules::DEFAULT,
+            here: Presence {
+                discovery,
+                user,
+                lease: LEASE,
+            },
+            everyone: Locators::one(alloc, discovery_group(domain)),
+        }
+    }
+
+    /// Announces the participant to everyone once in this time, in milliseconds.
+    pub fn period(mut self, period: u64) -> Announcing
+        ensures { result ≡ record self { rules = record self.rules { period = period } } }
+    {
+        self.rules.period = period;
+        self
+    }
+
+    /// Has others forget the participant once it has kept silent for longer than this (DDSI-RTPS
+    /// 8.5.3.2). The period has to be below it.
+    pub fn lease(mut self, lease: Duration) -> Announcing
+        ensures { result ≡ record self { here = record self.here { lease = lease } } }
+    {
+        self.here.lease = lease;
+        self
+    }
+
+    /// Announces the participant at these addresses, in the place of those so far: at most 64,
+    /// groups and participants that are known.
+    pub fn everyone(mut self, everyone: Locators) -> Announcing
+        ensures { result ≡ record self { everyone = everyone } }
+    {
+        self.everyone = everyone;
+        self
+    }
+
     /// Returns why a participant can't announce itself so, if it can't.
     pub fn fault(&self) -> Option<AnnounceFault>
         ensures { result ≡ fault_of self.now }

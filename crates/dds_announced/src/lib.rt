@@ -7,6 +7,7 @@
 //! writes what is said as octets.
 //!
 //! ```text
+//! let announcing = Announcing::new(alloc, 0, discovery, user);
 //! let mut participant = AnnouncedParticipant::new(alloc, config, announcing, Shapes)?;
 //! let mut announcements = Vec::new(alloc);
 //! participant.tick_in_order(alloc, moment, &mut given, &mut announcements)?;
@@ -41,7 +42,7 @@ mod tests;
 mod voice;
 
 pub use announcement::Announcement;
-pub use announcing::{AnnounceFault, AnnouncedError, Announcing};
+pub use announcing::{AnnounceFault, AnnouncedError, Announcing, discovery_group};
 pub use participant::AnnouncedParticipant;
 pub use readers::ReaderError;
 pub use speaker::Speaker;

@@ -150,6 +150,35 @@ fn a_period_below_the_lease_and_places_of_one_interface(rt: HostRuntime) -> Resu
     Ok(())
 }
 
+/// In domain 1 the group is at 7650.
+#[test]
+fn each_part_has_a_default(rt: HostRuntime) -> Result<(), Fail> {
+    let alloc = rt.alloc();
+    let default = Announcing::new(alloc, 1, HERE.discovery, HERE.user);
+    assert_eq!(rt; default.fault(), None);
+    assert_eq!(rt; default.rules, Rules::DEFAULT);
+    assert_eq!(rt; default.here, HERE);
+    let group = Locator {
+        port: 7650,
+        address: [239, 255, 0, 1],
+    };
+    assert_eq!(rt; default.everyone.as_slice(), [group].as_slice());
+    let lease = Duration {
+        seconds: 3,
+        fraction: 0,
+    };
+    let other = default
+        .period(500)
+        .lease(lease)
+        .everyone(Locators::one(alloc, PLACE));
+    assert_eq!(rt; other.rules.period, 500);
+    assert_eq!(rt; other.rules.reminder, 200);
+    assert_eq!(rt; other.here.lease, lease);
+    assert_eq!(rt; other.here.user, HERE.user);
+    assert_eq!(rt; other.everyone.as_slice(), [PLACE].as_slice());
+    Ok(())
+}
+
 #[test]
 fn a_gap_and_a_heartbeat(rt: HostRuntime) -> Result<(), Fail> {
     let alloc = rt.alloc();
