@@ -37,9 +37,9 @@ impl Binding {
     }
 }
 
-/// Returns the last index of a participant in a domain: both of its ports are numbers of 16 bits,
-/// and neither is one of the next domain.
-pub(crate) fn last_index(domain: u16) -> u8
+/// Returns the last index of a participant in a domain, 0 to 232: 119, or 62 in domain 232. Both of
+/// its ports are numbers of 16 bits, and neither is one of the next domain (DDSI-RTPS 9.6.1.1).
+pub fn last_index(domain: u16) -> u8
     requires { domain ≤ 232 }
     ensures value { result ≡ last_index_of domain }
     ensures fits { 7411 + 250 * domain + 2 * result ≤ 65535 }

@@ -14,7 +14,7 @@ mod sockets;
 mod tests;
 
 pub use addresses::Purpose;
-pub use binding::Binding;
+pub use binding::{Binding, last_index};
 pub use fault::SocketFault;
 pub use link::Link;
 pub use machine::Machine;
