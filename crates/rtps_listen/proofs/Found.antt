@@ -14,16 +14,16 @@ use Rattle.clap.specs.declared.parser.matches.Found.{Found}
 use Rattle.clap.proofs.WalkLemmas.{both, first_value-rows, one_text-rows}
 use Rattle.std.proofs.lemmas.Slice.Eq.{bytes_eq-Decides}
 use Rattle.rtps_listen.specs.Options.{are_digits, is_set, number_in, number_of}
-use Rattle.rtps_listen.specs.Line.{with_place, with_ends, with_sizes, with_names, with_flags, dump_app, explain_app, replay_app, samples_app, live_app, printing_app, listen_app}
+use Rattle.rtps_listen.specs.Line.{with_place, with_reach, with_ends, with_sizes, with_names, with_flags, dump_app, explain_app, replay_app, samples_app, live_app, printing_app, listen_app}
 
 -- the commands are ones whose matches clap gives
 pub listen_simple : is_simple listen_app ≡ true
-unfolding with_place with_ends with_sizes with_names with_flags dump_app explain_app replay_app samples_app live_app printing_app listen_app
+unfolding with_place with_reach with_ends with_sizes with_names with_flags dump_app explain_app replay_app samples_app live_app printing_app listen_app
 listen_simple = refl
 
 -- and whose faults
 pub listen_free : is_simple_and_free listen_app ≡ true
-unfolding with_place with_ends with_sizes with_names with_flags dump_app explain_app replay_app samples_app live_app printing_app listen_app
+unfolding with_place with_reach with_ends with_sizes with_names with_flags dump_app explain_app replay_app samples_app live_app printing_app listen_app
 listen_free = refl
 
 -- what is found by name and what is found by its matches, as one

@@ -20,16 +20,16 @@ use Rattle.rtps_text.specs.declared.setup.Setup.{Setup}
 use Rattle.rtps_listen.specs.Addresses.{IsJoinCause}
 use Rattle.rtps_listen.specs.Configs.{IsCause, IsConfigOf}
 use Rattle.rtps_udp.specs.declared.binding.Binding.{Binding}
-use Rattle.rtps_listen.specs.Domain.{Hears, IsBefore, IsQuiet, Joins, ListensBy, live_run_of}
-use Rattle.rtps_listen.specs.declared.domain.Station.{Station}
+use Rattle.rtps_listen.specs.Domain.{Hears, IsBefore, IsLive, IsQuiet, Joins, ListensBy, live_run_of}
+use Rattle.rtps_listen.specs.declared.network.Station.{Station}
 use Rattle.rtps_listen.specs.Printed.{EndsBy, IsFirst, Prints, Writes, kept_text, run_text}
 use Rattle.rtps_listen.specs.Setup.{IsCacheSetupOf, IsLiveSetupOf, IsSetupOf, history_of}
 use Rattle.rtps_listen.specs.Status.{live_fault_of}
 use Rattle.rtps_listen.specs.declared.fault.ListenFault.{ListenFault}
-use Rattle.rtps_listen.specs.declared.fault.ListenFault.TheVariants.{NoText, BadPrefix, BadWriter, BadAddress, Socket, Run}
+use Rattle.rtps_listen.specs.declared.fault.ListenFault.TheVariants.{NoText, BadPrefix, BadWriter, BadAddress, BadPeers, OnlyAnnounced, TooLong, NoPorts, Socket, Run}
 use Rattle.rtps_listen.specs.declared.options.Options.{Options}
 use Rattle.rtps_listen.specs.declared.request.Request.TheVariants.{Replay, Samples}
-use Rattle.rtps_listen.proofs.Refused.{IsLive, IsRun}
+use Rattle.rtps_listen.proofs.Refused.{IsRun}
 
 -- what is wrong with options is found before a domain is joined
 pub cause_before : (o : Options) (fault : ListenFault) → IsCause o fault → IsBefore fault
@@ -38,6 +38,10 @@ cause_before o BadPrefix h = tt
 cause_before o BadWriter h = tt
 cause_before o BadAddress h = tt
 cause_before o Socket h = tt
+cause_before o BadPeers h = tt
+cause_before o OnlyAnnounced h = tt
+cause_before o TooLong h = tt
+cause_before o (NoPorts first last) h = tt
 cause_before o (Run NoMemory) h = refl
 cause_before o (Run CannotRead) h = absurd h
 cause_before o (Run NotRecordFile) h = absurd h
@@ -52,6 +56,10 @@ before_first Socket h = tt
 before_first BadPrefix h = tt
 before_first BadWriter h = tt
 before_first BadAddress h = tt
+before_first BadPeers h = tt
+before_first OnlyAnnounced h = tt
+before_first TooLong h = tt
+before_first (NoPorts first last) h = tt
 before_first (Run fault) h = rw h tt
 
 -- and before a file is read
@@ -79,7 +87,7 @@ heard_fault (Err e) live_fault.Socket is = rw is tt
 heard_fault (Err e) (live_fault.Run fault) is = rw is tt
 
 -- what is refused before leaves nothing written
-ends : (P : ListenFault → Type 0) (old : Option (List ℕ)) (s : Result (Unit {0}) ListenFault) (fault : ListenFault)
+pub ends : (P : ListenFault → Type 0) (old : Option (List ℕ)) (s : Result (Unit {0}) ListenFault) (fault : ListenFault)
     → IsErrAnd s (λ e. e ≡ fault) → P fault → EndsBy P old old s
 ends P old (Ok u) fault is h = absurd is
 ends P old (Err other) fault is h = (refl, rw is h, Keeps-refl old)
@@ -94,8 +102,8 @@ pub keeps_none : (o : Options) (holds : List ℕ → Option (List ℕ)) (old : O
 unfolding Prints
 keeps_none o holds old s fault is h = inl (ends IsFirst old s fault is h)
 
-pub hears_none : {H J : Type 0} (joins : H → Binding → H → J → Type 0) (traffic : J → Option (List Traffic)) (o : Options)
-    (before after : Station H J) (old : Option (List ℕ)) (s : Result (Unit {0}) ListenFault) (fault : ListenFault)
+pub hears_none : {H J A : Type 0} (joins : H → Binding → H → J → Type 0) (traffic : J → Option (List Traffic)) (o : Options)
+    (before after : Station H J A) (old : Option (List ℕ)) (s : Result (Unit {0}) ListenFault) (fault : ListenFault)
     → IsErrAnd s (λ e. e ≡ fault) → IsBefore fault → after ≡ before → Hears joins traffic o before after old old s
 unfolding Hears
 hears_none joins traffic o before after old s fault is h same = inl (ends IsBefore old s fault is h, same)
@@ -152,6 +160,10 @@ join_before o NoText h = absurd h
 join_before o BadPrefix h = absurd h
 join_before o BadWriter h = absurd h
 join_before o (Run fault) h = absurd h
+join_before o BadPeers h = absurd h
+join_before o OnlyAnnounced h = absurd h
+join_before o TooLong h = absurd h
+join_before o (NoPorts first last) h = absurd h
 
 -- how the run ends is how the program ends
 abbrev pub IsPassed : Result (Unit {0}) LiveFault → Result (Unit {0}) ListenFault → Type 0
@@ -177,18 +189,25 @@ asked_run o config catalog setup raw before after old new r same by h =
     (subst (λ n. Listened (live_run_of raw setup.run.config setup.run.summary) (limits_of n o.turns) r before after old new) by.datagrams
     (subst (λ n. Listened (live_run_of raw setup.run.config setup.run.summary) (limits_of setup.datagrams n) r before after old new) by.turns h))))
 
--- the run is that of the options, over the network that was joined
-pub hears : {C H J : Type 0} (o : Options) (config : Config) (catalog : C) (setup : LiveSetup C) (raw : Bool)
-    (joins : H → Binding → H → J → Type 0) (traffic : J → Option (List Traffic)) (before after : Station H J)
-    (network start last : J) (old new : Option (List ℕ)) (r : Result (Unit {0}) LiveFault) (s : Result (Unit {0}) ListenFault)
-    → IsConfigOf o config → o.raw ≡ raw → IsLiveSetupOf o config catalog setup
-    → Joins joins o before.host after.host network → IsQuiet (traffic network) → after.network ≡ Some last → start ≡ network
-    → Listened (live_run_of raw setup.run.config setup.run.summary) (limits_of setup.datagrams setup.turns) r (traffic start) (traffic last) old new
-    → IsPassed r s → Hears joins traffic o before after old new s
+-- the run over a network is that of the options
+pub listens_by : {C : Type 0} (o : Options) (config : Config) (catalog : C) (setup : LiveSetup C) (raw : Bool)
+    (before after : Option (List Traffic)) (old new : Option (List ℕ)) (r : Result (Unit {0}) LiveFault) (s : Result (Unit {0}) ListenFault)
+    → o.raw ≡ raw → IsLiveSetupOf o config catalog setup
+    → Listened (live_run_of raw setup.run.config setup.run.summary) (limits_of setup.datagrams setup.turns) r before after old new
+    → IsPassed r s → ListensBy (live_run_of o.raw config o.summary) (limits_of o.count o.turns) before after old new s
+listens_by o config catalog setup raw before after old new r s same by h passed =
+    listens (live_run_of o.raw config o.summary) (limits_of o.count o.turns) before after old new r s
+    (asked_run o config catalog setup raw before after old new r same by h) passed
+
+-- and over the network that was joined
+pub hears : {H J A : Type 0} (o : Options) (config : Config) (joins : H → Binding → H → J → Type 0) (traffic : J → Option (List Traffic))
+    (before after : Station H J A) (network start last : J) (old new : Option (List ℕ)) (s : Result (Unit {0}) ListenFault)
+    → IsConfigOf o config → Joins joins o before.host after.host network → IsQuiet (traffic network) → after.network ≡ Some last → start ≡ network
+    → after.announced ≡ before.announced
+    → ListensBy (live_run_of o.raw config o.summary) (limits_of o.count o.turns) (traffic start) (traffic last) old new s
+    → Hears joins traffic o before after old new s
 unfolding Hears
-hears o config catalog setup raw joins traffic before after network start last old new r s is same by joined quiet is_last starts h passed =
-    let begun = subst (λ j. Listened (live_run_of raw setup.run.config setup.run.summary) (limits_of setup.datagrams setup.turns) r (traffic j) (traffic last) old new) starts h in
-    let asked = asked_run o config catalog setup raw (traffic network) (traffic last) old new r same by begun in
+hears o config joins traffic before after network start last old new s is joined quiet is_last starts other h =
     inr (record {
       config = config;
       is_config = is;
@@ -197,5 +216,6 @@ hears o config catalog setup raw joins traffic before after network start last o
       quiet = quiet;
       last = last;
       is_last = is_last;
-      listens = listens (live_run_of o.raw config o.summary) (limits_of o.count o.turns) (traffic network) (traffic last) old new r s asked passed;
+      other = other;
+      listens = subst (λ j. ListensBy (live_run_of o.raw config o.summary) (limits_of o.count o.turns) (traffic j) (traffic last) old new s) starts h;
     })

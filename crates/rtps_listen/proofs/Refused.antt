@@ -4,9 +4,10 @@ use Rattle.std.specs.Prelude.{IsErrAnd}
 use Rattle.rtps_records.specs.declared.fault.RunFault.TheVariants.{NoMemory}
 use Rattle.rtps_listen.specs.Addresses.{IsAddressText, IsJoinCause, IsLiveCause}
 use Rattle.rtps_listen.specs.Configs.{IsCause, IsReplayCause, Refuses}
+use Rattle.rtps_listen.specs.Domain.{IsLive}
 use Rattle.rtps_listen.specs.Request.{RefusesFirst}
 use Rattle.rtps_listen.specs.declared.fault.ListenFault.{ListenFault}
-use Rattle.rtps_listen.specs.declared.fault.ListenFault.TheVariants.{NoText, BadPrefix, BadWriter, BadAddress, Socket, Run}
+use Rattle.rtps_listen.specs.declared.fault.ListenFault.TheVariants.{NoText, BadPrefix, BadWriter, BadAddress, BadPeers, OnlyAnnounced, TooLong, NoPorts, Socket, Run}
 use Rattle.rtps_listen.specs.declared.options.Options.{Options}
 use Rattle.rtps_listen.specs.declared.request.Request.TheVariants.{Listen, Replay, Samples}
 
@@ -14,12 +15,6 @@ use Rattle.rtps_listen.specs.declared.request.Request.TheVariants.{Listen, Repla
 abbrev pub IsRun : ListenFault → Type 0
 IsRun (Run fault) = Unit {0}
 IsRun fault = ⊥
-
--- a fault of the run or of a socket
-abbrev pub IsLive : ListenFault → Type 0
-IsLive (Run fault) = Unit {0}
-IsLive Socket = Unit {0}
-IsLive fault = ⊥
 
 not_err : {T U E : Type 0} (x : T) (e : E) → Ok x ≡ Err e → U
 not_err x e h = absurd (let bad : Ok x ≡ Err e = h in cc)
@@ -32,7 +27,7 @@ is_err (Ok u) fault is = absurd is
 is_err (Err other) fault is = ap Err is
 
 -- what was refused is passed on
-refuses_again : {T U : Type 0} (o : Options) (r : Result T ListenFault) (s : Result U ListenFault) (fault : ListenFault)
+pub refuses_again : {T U : Type 0} (o : Options) (r : Result T ListenFault) (s : Result U ListenFault) (fault : ListenFault)
     → r ≡ Err fault → s ≡ Err fault → Refuses o r → Refuses o s
 refuses_again o r s fault e k h = record {
   prefix = λ bad. again r s fault BadPrefix e k (h.prefix bad);
@@ -41,7 +36,7 @@ refuses_again o r s fault e k h = record {
 }
 
 -- where nothing is refused, nothing is to be refused
-refuses_none : {T U : Type 0} (o : Options) (t : T) (s : Result U ListenFault) → Refuses {T = T} o (Ok t) → Refuses o s
+pub refuses_none : {T U : Type 0} (o : Options) (t : T) (s : Result U ListenFault) → Refuses {T = T} o (Ok t) → Refuses o s
 refuses_none o t s h = record {
   prefix = λ bad. not_err t BadPrefix (h.prefix bad);
   fixed = λ good bad. not_err t BadWriter (h.fixed good bad);
@@ -56,6 +51,10 @@ replay_cause o BadWriter h = h
 replay_cause o BadAddress h = h
 replay_cause o NoText h = h
 replay_cause o Socket h = h
+replay_cause o BadPeers h = h
+replay_cause o OnlyAnnounced h = h
+replay_cause o TooLong h = h
+replay_cause o (NoPorts first last) h = h
 
 live_cause : (o : Options) (fault : ListenFault) → IsCause o fault → IsLiveCause o fault
 live_cause o (Run fault) h = tt
@@ -64,6 +63,10 @@ live_cause o BadWriter h = h
 live_cause o BadAddress h = absurd h
 live_cause o NoText h = h
 live_cause o Socket h = tt
+live_cause o BadPeers h = absurd h
+live_cause o OnlyAnnounced h = absurd h
+live_cause o TooLong h = absurd h
+live_cause o (NoPorts first last) h = absurd h
 
 run_cause : (o : Options) (s : Result (Unit {0}) ListenFault) → IfErr s IsRun → IfErr s (IsReplayCause o)
 run_cause o (Ok u) k = tt
@@ -73,6 +76,10 @@ run_cause o (Err Socket) k = absurd k
 run_cause o (Err BadPrefix) k = absurd k
 run_cause o (Err BadWriter) k = absurd k
 run_cause o (Err BadAddress) k = absurd k
+run_cause o (Err BadPeers) k = absurd k
+run_cause o (Err OnlyAnnounced) k = absurd k
+run_cause o (Err TooLong) k = absurd k
+run_cause o (Err (NoPorts first last)) k = absurd k
 
 heard_cause : (o : Options) (s : Result (Unit {0}) ListenFault) → IfErr s IsLive → IfErr s (IsLiveCause o)
 heard_cause o (Ok u) k = tt
@@ -82,6 +89,10 @@ heard_cause o (Err NoText) k = absurd k
 heard_cause o (Err BadPrefix) k = absurd k
 heard_cause o (Err BadWriter) k = absurd k
 heard_cause o (Err BadAddress) k = absurd k
+heard_cause o (Err BadPeers) k = absurd k
+heard_cause o (Err OnlyAnnounced) k = absurd k
+heard_cause o (Err TooLong) k = absurd k
+heard_cause o (Err (NoPorts first last)) k = absurd k
 
 passed : (P Q : ListenFault → Type 0) (s : Result (Unit {0}) ListenFault) (fault : ListenFault) → s ≡ Err fault → P fault → ((e : ListenFault) → P e → Q e) → IfErr s Q
 passed P Q s fault e p to = rw e (to fault p)
@@ -135,6 +146,10 @@ joined_cause o NoText h = absurd h
 joined_cause o BadPrefix h = absurd h
 joined_cause o BadWriter h = absurd h
 joined_cause o (Run fault) h = absurd h
+joined_cause o BadPeers h = absurd h
+joined_cause o OnlyAnnounced h = absurd h
+joined_cause o TooLong h = absurd h
+joined_cause o (NoPorts first last) h = absurd h
 
 not_joined : (o : Options) (fault : ListenFault) → IsJoinCause o fault → ¬ IsAddressText o.address.now → fault ≡ BadAddress
 not_joined o BadAddress h bad = refl
@@ -143,6 +158,10 @@ not_joined o NoText h bad = absurd h
 not_joined o BadPrefix h bad = absurd h
 not_joined o BadWriter h bad = absurd h
 not_joined o (Run fault) h bad = absurd h
+not_joined o BadPeers h bad = absurd h
+not_joined o OnlyAnnounced h bad = absurd h
+not_joined o TooLong h bad = absurd h
+not_joined o (NoPorts first last) h bad = absurd h
 
 refused_at : (o : Options) (s : Result (Unit {0}) ListenFault) (fault : ListenFault) → IsErrAnd s (λ e. e ≡ fault) → IsJoinCause o fault
     → ¬ IsAddressText o.address.now → IsErrAnd s (λ e. (e ≡ BadAddress) ⊎ IsCause o e)

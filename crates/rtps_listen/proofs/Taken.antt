@@ -105,3 +105,10 @@ pub refused_unmatched : (options : Options) (own : GuidPrefix) (writer : Option 
     → AreWritten options own writer → check_of config ≡ Err fault → IsUnmatched options
 refused_unmatched options own writer config fault made written refused =
     (own, writer, written, told_fault (is_unmatched own writer) fault (sym (made_told options own writer config made) ∙ refused))
+
+-- with another prefix than that of options
+pub renamed_unmatched : (options : Options) (before own : GuidPrefix) (writer : Option Guid) (config : Config) (fault : ConfigFault) → IsMadeOf options before writer config
+    → check_of (record config { own = own }) ≡ Err fault → IsTrue (is_unmatched own writer)
+renamed_unmatched options before own writer config fault made refused =
+    told_fault (is_unmatched own writer) fault
+    (sym (made_told options own writer (record config { own = own }) (record { prefix = refl; readers = made.readers; fixed = made.fixed })) ∙ refused)

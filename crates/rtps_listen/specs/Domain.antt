@@ -14,7 +14,7 @@ use Rattle.rtps_listen.specs.Configs.{IsConfigOf}
 use Rattle.rtps_listen.specs.Printed.{EndsBy}
 use Rattle.rtps_listen.specs.declared.fault.ListenFault.{ListenFault}
 use Rattle.rtps_listen.specs.declared.fault.ListenFault.TheVariants.{Run, Socket}
-use Rattle.rtps_listen.specs.declared.domain.Station.{Station}
+use Rattle.rtps_listen.specs.declared.network.Station.{Station}
 use Rattle.rtps_listen.specs.declared.options.Options.{Options}
 
 -- the run that readers make, whose samples are shapes of the Shapes demo, or with `--raw` octets
@@ -32,6 +32,12 @@ IsQuiet (Some calls) = calls ≡ []
 abbrev pub Joins : {H J : Type 0} → (H → Binding → H → J → Type 0) → Options → H → H → J → Type 0
 Joins joins options before after network =
     (binding : Binding) × IsBindingOf options binding × joins before binding after network
+
+-- a fault of the run or of a socket
+abbrev pub IsLive : ListenFault → Type 0
+IsLive (Run fault) = Unit {0}
+IsLive Socket = Unit {0}
+IsLive fault = ⊥
 
 -- a fault that is found before a domain is joined: the only fault of a run is want of memory
 abbrev pub IsBefore : ListenFault → Type 0
@@ -52,8 +58,8 @@ ListensBy made limits before after old new (Err fault) = ⊥
 
 -- A run over the network that the host joined, for which nothing had been called there: all calls
 -- there are the run's. `traffic` tells which calls there were to a network so far.
-pub record HearsAll {H J : Type 0} (joins : H → Binding → H → J → Type 0)
-    (traffic : J → Option (List Traffic)) (options : Options) (before after : Station H J)
+pub record HearsAll {H J A : Type 0} (joins : H → Binding → H → J → Type 0)
+    (traffic : J → Option (List Traffic)) (options : Options) (before after : Station H J A)
     (old new : Option (List ℕ)) (result : Result (Unit {0}) ListenFault) : Type 0 where
   pub config : Config
   pub is_config : IsConfigOf options config
@@ -62,13 +68,14 @@ pub record HearsAll {H J : Type 0} (joins : H → Binding → H → J → Type 0
   pub quiet : IsQuiet (traffic network)
   pub last : J
   pub is_last : after.network ≡ Some last
+  pub other : after.announced ≡ before.announced
   pub listens : ListensBy (live_run_of options.raw config options.summary)
       (limits_of options.count options.turns) (traffic network) (traffic last) old new result
 
 -- What `listen` does. Nothing is joined and nothing is written if the options are refused, the
 -- domain can't be joined, or memory runs out before. Else it runs over the network that it joined.
-unfoldable pub Hears : {H J : Type 0} → (H → Binding → H → J → Type 0)
-    → (J → Option (List Traffic)) → Options → Station H J → Station H J
+unfoldable pub Hears : {H J A : Type 0} → (H → Binding → H → J → Type 0)
+    → (J → Option (List Traffic)) → Options → Station H J A → Station H J A
     → Option (List ℕ) → Option (List ℕ) → Result (Unit {0}) ListenFault → Type 0
 Hears joins traffic options before after old new result =
     (EndsBy IsBefore old new result × (after ≡ before))

@@ -1,11 +1,15 @@
 pub mod Addresses
+pub mod Appearing
 pub mod Configs
 pub mod Domain
+pub mod Hosts
 pub mod Identities
 pub mod Line
+pub mod Networks
 pub mod Options
 pub mod Printed
 pub mod Program
+pub mod Reaching
 pub mod Request
 pub mod Setup
 pub mod Status

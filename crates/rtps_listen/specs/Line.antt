@@ -127,9 +127,36 @@ address_rule =
     record (new_rule (codes "address"))
     { value_names = 1; long = Some (codes "address"); defaults = address_text ∷ [] }
 
+-- `--announce`
+abbrev pub announce_rule : Rule
+announce_rule = flag_rule (codes "announce")
+
+-- `--no-multicast`
+abbrev pub no_multicast_rule : Rule
+no_multicast_rule = flag_rule (codes "no-multicast")
+
+-- `--peers ADDRESSES`
+abbrev pub peers_rule : Rule
+peers_rule = record (new_rule (codes "peers")) { value_names = 1; long = Some (codes "peers") }
+
+-- `--lease` 2 to 86400
+abbrev pub lease_rule : Rule
+lease_rule =
+    record (new_rule (codes "lease")) {
+      value_names = 1;
+      long = Some (codes "lease");
+      parser = Some (Signed (pos 2) (pos 86400));
+    }
+
 -- the options for the domain and the address
 unfoldable pub with_place : App → App
 with_place a = with_rule (with_rule a domain_rule) address_rule
+
+-- the options for how the participant announces itself
+unfoldable pub with_reach : App → App
+with_reach a =
+    with_rule (with_rule (with_rule (with_rule a announce_rule) peers_rule) no_multicast_rule)
+    lease_rule
 
 -- the options for the end of the run
 unfoldable pub with_ends : App → App
@@ -167,9 +194,9 @@ replay_app = with_options (with_rule (new_app (codes "replay")) file_rule)
 unfoldable pub samples_app : App
 samples_app = with_options (with_rule (with_rule (new_app (codes "samples")) file_rule) keep_rule)
 
--- `listen --domain D --count N [--turns T] [--address A]` and the options
+-- `listen --domain D --count N [--turns T] [--address A] [--announce]` and the options
 unfoldable pub live_app : App
-live_app = with_options (with_ends (with_place (new_app (codes "listen"))))
+live_app = with_options (with_reach (with_ends (with_place (new_app (codes "listen")))))
 
 -- the program with `dump`, `explain` and `replay`
 unfoldable pub printing_app : App

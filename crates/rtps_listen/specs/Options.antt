@@ -65,3 +65,7 @@ pub record AreOptions (options : Options) (rows : List Row) : Type 0 where
   pub address : options.address.now ≡ text_or (codes "address") address_text rows
   pub count : options.count ≡ one_to 65536 (number_in (codes "count") rows)
   pub turns : options.turns ≡ one_to 100000 (number_in (codes "turns") rows)
+  pub announce : options.announce ≡ is_set (codes "announce") rows
+  pub peers : option_map (λ text. text.now) options.peers ≡ first_of (codes "peers") rows
+  pub no_multicast : options.no_multicast ≡ is_set (codes "no-multicast") rows
+  pub lease : options.lease ≡ up_to 86400 (number_in (codes "lease") rows)

@@ -1,5 +1,5 @@
 -- What is printed of a file, by what the words ask for.
-use Rattle.std.specs.Prelude.{ℕ, List, Bool, true, false, Option, None, ◌⊎◌, Result, Ok, Err, IfErr, IsErr}
+use Rattle.std.specs.Prelude.{◌≡◌, ℕ, List, Bool, true, false, Option, None, ◌⊎◌, Result, Ok, Err, IfErr, IsErr}
 use Rattle.std.specs.Io.KnownBytes.{Keeps}
 use Rattle.rtps_types.specs.declared.identity.GuidPrefix.{GuidPrefix}
 use Rattle.dds_topic.specs.RawMeaning.{raw_decoding}
@@ -20,9 +20,9 @@ use Rattle.rtps_text.specs.Taken.{StopsBy}
 use Rattle.rtps_listen.specs.Configs.{IsConfigOf}
 use Rattle.rtps_listen.specs.Setup.{history_of}
 use Rattle.rtps_listen.specs.declared.fault.ListenFault.{ListenFault}
-use Rattle.rtps_listen.specs.declared.fault.ListenFault.TheVariants.{Run}
+use Rattle.rtps_listen.specs.declared.fault.ListenFault.TheVariants.{OnlyAnnounced, Run}
 use Rattle.rtps_listen.specs.declared.request.Request.{Request}
-use Rattle.rtps_listen.specs.declared.request.Request.TheVariants.{Dump, Explain, Listen, Replay, Samples}
+use Rattle.rtps_listen.specs.declared.request.Request.TheVariants.{Announce, Dump, Explain, Listen, Replay, Samples, Stray}
 
 -- the text of a run over these records, whose samples are shapes of the Shapes demo, or with
 -- `--raw` octets
@@ -81,3 +81,6 @@ Prints (Samples options) holds old new result =
     × Writes true (kept_text options.raw config options.summary (history_of options.keep))
     (holds options.file.now) old new result)
 Prints (Listen options) holds old new result = ⊥
+Prints (Announce options) holds old new result = ⊥
+Prints (Stray options) holds old new result =
+    EndsBy (λ fault. fault ≡ OnlyAnnounced) old new result

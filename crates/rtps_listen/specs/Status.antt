@@ -1,5 +1,6 @@
 -- The exit statuses of the program, and the lines that it ends with.
 use Rattle.std.specs.Prelude.{ℕ, List, ◌++◌, Result, Ok, Err, codes}
+use Rattle.std.specs.Fmt.{decimal}
 use Rattle.rtps_records.specs.Faults as records
 use Rattle.rtps_records.specs.declared.fault.RunFault.TheVariants.{CannotRead, NotRecordFile, CutRecord, RecordTooLong, TooManyRecords, CannotWrite, NoMemory}
 use Rattle.rtps_files.specs.declared.fault.FileFault.{FileFault}
@@ -9,7 +10,7 @@ use Rattle.rtps_text.specs.declared.live_fault.LiveFault.TheVariants as live_fau
 use Rattle.rtps_listen.specs.declared.program.Failure.{Failure}
 use Rattle.rtps_listen.specs.declared.program.Failure.TheVariants.{Line, Fault}
 use Rattle.rtps_listen.specs.declared.fault.ListenFault.{ListenFault}
-use Rattle.rtps_listen.specs.declared.fault.ListenFault.TheVariants.{NoText, BadPrefix, BadWriter, BadAddress, Socket, Run}
+use Rattle.rtps_listen.specs.declared.fault.ListenFault.TheVariants.{NoText, BadPrefix, BadWriter, BadAddress, BadPeers, OnlyAnnounced, TooLong, NoPorts, Socket, Run}
 
 -- the fault of the program that a run over a domain ends with
 abbrev pub live_fault_of : LiveFault → ListenFault
@@ -28,6 +29,10 @@ status_of NoText = 2
 status_of BadPrefix = 2
 status_of BadWriter = 2
 status_of BadAddress = 2
+status_of BadPeers = 2
+status_of OnlyAnnounced = 2
+status_of TooLong = 2
+status_of (NoPorts first last) = 4
 status_of Socket = 4
 status_of (Run CannotRead) = 3
 status_of (Run NotRecordFile) = 3
@@ -49,6 +54,12 @@ fault_text NoText = codes "a word is not text"
 fault_text BadPrefix = codes "bad prefix"
 fault_text BadWriter = codes "bad writer"
 fault_text BadAddress = codes "bad address"
+fault_text BadPeers = codes "bad peers"
+fault_text OnlyAnnounced = codes "--peers, --no-multicast and --lease need --announce"
+fault_text TooLong = codes "a topic is too long to be announced"
+fault_text (NoPorts first last) =
+    codes "no two ports of "
+    ++ (decimal first ++ (codes " to " ++ (decimal last ++ codes " are free")))
 fault_text Socket = codes "socket fault"
 fault_text (Run fault) = records.fault_text fault
 

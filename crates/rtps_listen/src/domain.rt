@@ -1,46 +1,27 @@
 //! What is printed of the datagrams of a domain.
 
-ghost use Rattle.std.specs.Prelude.{◌≡◌, IfErr, IfOk, OnErr};
+ghost use Rattle.std.specs.Prelude.{◌≡◌, IfErr, IfOk, Ok, OnErr};
+ghost use Rattle.rtps_discovery.specs.Config.{check_of};
+ghost use Rattle.rtps_text.specs.Listened.{limits_of};
 ghost use Rattle.rtps_listen.specs.Addresses.{IsAddressText, IsJoinCause};
-ghost use Rattle.rtps_listen.specs.Domain.{Hears, IsQuiet, Joins};
+ghost use Rattle.rtps_listen.specs.Domain.{Hears, IsLive, IsQuiet, Joins, ListensBy, live_run_of};
 ghost use Rattle.rtps_listen.specs.Request.{RefusesFirst};
 ghost use Rattle.rtps_listen.specs.declared.request.Request.TheVariants.{Listen};
-ghost use Rattle.rtps_udp.specs.declared.binding.Binding.{Binding};
 
 use crate::config::config_of;
 use crate::fault::ListenFault;
+use crate::network::{Network, Station};
 use crate::options::Options;
 use crate::setup::live_setup_of;
 use dds_topic::{Raw, Shapes};
+use rtps_discovery::Config;
 use rtps_records::Exchange;
 use rtps_text::listen;
-use rtps_udp::{Binding, SocketFault};
+use rtps_udp::Binding;
 use std::alloc::Global;
 use std::io::Write;
 use std::net::Ipv4Addr;
 use std::thread::Threads;
-
-/// A host that can take part in domains.
-pub trait Network {
-    /// A network that exchanges the datagrams of a domain.
-    type Joined: Exchange + Drop;
-
-    ghost joins: { Self → Binding → Self → Self.Joined → Type 0 };
-
-    /// Takes part in a domain, as its first participant, at an address of this machine. By this
-    /// alone nothing is received or sent. At a fault the host is unchanged.
-    fn join(&mut self, alloc: Global, binding: Binding) -> Result<Self::Joined, SocketFault>
-        ensures joined { IfOk result (λ network. joins self.old binding self.new network) }
-        ensures quiet { IfOk result (λ network. IsQuiet (Self.Joined.traffic network)) }
-        ensures same { OnErr result (self.new ≡ self.old) };
-}
-
-/// A host, with the network that it has joined last.
-#[derive(Drop)]
-pub struct Station<H, J> {
-    pub host: H,
-    pub network: Option<J>,
-}
 
 /// Takes part in the domain that options name, at the address that they name. No datagram is
 /// received or sent by this. At a fault the host is unchanged.
@@ -73,6 +54,43 @@ fn join<H: Network>(
     }
 }
 
+/// Options, and the configuration of the readers that they ask for.
+#[derive(Drop)]
+pub struct Asked<'o, 'a> {
+    pub options: &'o Options<'a>,
+    pub config: Config,
+    ghost checked: { check_of config ≡ Ok tt },
+}
+
+/// Prints what readers report and answer of the datagrams of a network, as options ask for it.
+///
+/// `Socket` if no datagram can be waited for or received any more. Any other fault is that of the
+/// run.
+pub fn run_over<N: Exchange, W: Write, T: Threads + Sync>(
+    rt: &T,
+    alloc: Global,
+    asked: Asked<'_, '_>,
+    network: &mut N,
+    writer: &mut W,
+) -> Result<(), ListenFault>
+    ensures listens { ListensBy
+        (live_run_of asked.entry.options.now.raw asked.entry.config
+        asked.entry.options.now.summary)
+        (limits_of asked.entry.options.now.count asked.entry.options.now.turns)
+        (N.traffic network.old) (N.traffic network.new)
+        (W.contents writer.old) (W.contents writer.new) result }
+    ensures fault { IfErr result IsLive }
+    ensures speech { N.speech network.new ≡ N.speech network.old }
+{
+    let Asked { options, config } = asked;
+    if options.raw {
+        let setup = live_setup_of(options, config, Raw);
+        return Ok(listen(rt, alloc, setup, network, writer)?);
+    }
+    let setup = live_setup_of(options, config, Shapes);
+    Ok(listen(rt, alloc, setup, network, writer)?)
+}
+
 /// Does what `listen` is asked for: takes part in a domain, and prints what readers report and
 /// answer of its datagrams.
 ///
@@ -82,7 +100,7 @@ fn join<H: Network>(
 pub fn listen_in<H: Network, W: Write, T: Threads + Sync>(
     rt: &T,
     alloc: Global,
-    station: &mut Station<H, H::Joined>,
+    station: &mut Station<H, H::Joined, H::Announced>,
     options: &Options<'_>,
     writer: &mut W,
 ) -> Result<(), ListenFault>
@@ -93,10 +111,5 @@ pub fn listen_in<H: Network, W: Write, T: Threads + Sync>(
     let config = config_of(alloc, options)?;
     let network = join(alloc, &mut station.host, options)?;
     let network = station.network.insert(network);
-    if options.raw {
-        let setup = live_setup_of(options, config, Raw);
-        return Ok(listen(rt, alloc, setup, network, writer)?);
-    }
-    let setup = live_setup_of(options, config, Shapes);
-    Ok(listen(rt, alloc, setup, network, writer)?)
+    run_over(rt, alloc, Asked { options, config }, network, writer)
 }

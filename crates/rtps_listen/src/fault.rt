@@ -18,8 +18,19 @@ pub enum ListenFault {
     BadPrefix,
     /// The value of `--fixed` isn't 32 hex digits, or names no writer that can be matched.
     BadWriter,
-    /// The value of `--address` isn't an IPv4 address in dotted notation.
+    /// The value of `--address` isn't an IPv4 address in dotted notation, or for a participant that
+    /// announces itself not one of one interface.
     BadAddress,
+    /// The value of `--peers` isn't a list of addresses of one interface each, 12 at the most, with
+    /// commas between them.
+    BadPeers,
+    /// `--peers`, `--no-multicast` or `--lease` is given without `--announce`.
+    OnlyAnnounced,
+    /// The record of a reader has more than 60,000 octets, so that no datagram announces it.
+    TooLong,
+    /// Each participant of the domain that there may be has a port that is taken; the first and the
+    /// last of their ports.
+    NoPorts(u16, u16),
     /// The sockets of a domain can't be opened, or one of them fails.
     Socket,
     /// The run over the records or datagrams ended early.
@@ -56,8 +67,11 @@ impl ListenFault {
             ListenFault::NoText
             | ListenFault::BadPrefix
             | ListenFault::BadWriter
-            | ListenFault::BadAddress => 2,
-            ListenFault::Socket => 4,
+            | ListenFault::BadAddress
+            | ListenFault::BadPeers
+            | ListenFault::OnlyAnnounced
+            | ListenFault::TooLong => 2,
+            ListenFault::Socket | ListenFault::NoPorts(_, _) => 4,
             ListenFault::Run(RunFault::NoMemory) => 5,
             ListenFault::Run(_) => 3,
         }
@@ -73,6 +87,14 @@ impl fmt::Display for ListenFault {
             ListenFault::BadPrefix => write!(f, "bad prefix"),
             ListenFault::BadWriter => write!(f, "bad writer"),
             ListenFault::BadAddress => write!(f, "bad address"),
+            ListenFault::BadPeers => write!(f, "bad peers"),
+            ListenFault::OnlyAnnounced => {
+                write!(f, "--peers, --no-multicast and --lease need --announce")
+            }
+            ListenFault::TooLong => write!(f, "a topic is too long to be announced"),
+            ListenFault::NoPorts(first, last) => {
+                write!(f, "no two ports of {first} to {last} are free")
+            }
             ListenFault::Socket => write!(f, "socket fault"),
             ListenFault::Run(fault) => write!(f, "{fault}"),
         }

@@ -2,30 +2,33 @@
 //! datagrams of a domain.
 #![tactic(auto)]
 
-ghost use Rattle.std.specs.Prelude.{◌≡◌, None, OnOk};
+ghost use Rattle.std.specs.Prelude.{◌≡◌, OnOk};
 ghost use Rattle.std.specs.Io.KnownBytes.{Appends};
 ghost use Rattle.std.specs.Process.{exit_status};
 ghost use Rattle.rtps_listen.specs.Status.{fault_line, status_after};
 
+mod appearing;
 mod config;
 mod domain;
 mod fault;
 mod files;
+mod host;
+mod network;
 mod options;
 mod program;
+mod reach;
+mod reaching;
 mod request;
 mod setup;
 mod words;
 
-use domain::{Network, Station};
 use fault::ListenFault;
+use host::Host;
+use network::Station;
 use program::{Failure, run};
-use rtps_files::RecordFiles;
 use rtps_records::RunFault;
-use rtps_udp::{Binding, Machine, SocketFault, Sockets};
 use std::alloc::Global;
-use std::fs::File;
-use std::io::{self, Read, Stdin, Write};
+use std::io::{self, Write};
 use std::process::ExitCode;
 use std::thread::Threads;
 
@@ -54,6 +57,7 @@ fn run_line<T: Threads + Sync>(rt: &HostRuntime, threads: &T) -> Result<(), Fail
     let mut station = Station {
         host: Host { rt },
         network: None,
+        announced: None,
     };
     run(
         threads,
@@ -76,51 +80,6 @@ fn words_given(rt: &HostRuntime) -> Result<Vec<String>, ListenFault> {
     match arguments.collect::<Vec<String>>(rt.alloc()) {
         Ok(words) => Ok(words),
         Err(_) => Err(ListenFault::Run(RunFault::NoMemory)),
-    }
-}
-
-/// The files, the sockets and the clock of this machine.
-#[derive(Drop)]
-struct Host<'a> {
-    rt: &'a HostRuntime,
-}
-
-/// A file of this machine, or its standard input.
-#[derive(Drop)]
-enum HostFile {
-    Stdin(Stdin),
-    File(File),
-}
-
-impl RecordFiles for Host<'_> {
-    type File = HostFile;
-
-    ghost holds = { λ _ _. None };
-
-    fn open(&self, name: &str) -> io::Result<HostFile> {
-        if name == "-" {
-            return Ok(HostFile::Stdin(self.rt.stdin()));
-        }
-        Ok(HostFile::File(File::open(self.rt, name)?))
-    }
-}
-
-impl<'a> Network for Host<'a> {
-    type Joined = Sockets<Machine<'a, HostRuntime, HostRuntime>>;
-
-    ghost joins = { λ _ binding _ sockets. sockets.binding ≡ binding };
-
-    fn join(&mut self, alloc: Global, binding: Binding) -> Result<Self::Joined, SocketFault> {
-        Sockets::bind_at(self.rt, self.rt, alloc, binding)
-    }
-}
-
-impl Read for HostFile {
-    fn read(&mut self, buf: &mut [u8]) -> io::Result<usize> {
-        match self {
-            HostFile::Stdin(stdin) => stdin.read(buf),
-            HostFile::File(file) => file.read(buf),
-        }
     }
 }
 

@@ -44,6 +44,14 @@ pub struct Options<'a> {
     pub count: u32,
     /// After how many waits for datagrams `listen` ends, 1 to 100,000.
     pub turns: u32,
+    /// Whether the participant announces itself and its readers.
+    pub announce: bool,
+    /// The addresses at which participants are told of it, with commas between them.
+    pub peers: Option<&'a str>,
+    /// Whether the group of the domain isn't told of it.
+    pub no_multicast: bool,
+    /// How long it may keep silent, in seconds, 2 to 86,400; 0 where this isn't given.
+    pub lease: u32,
     ghost some: { 1 ≤ readers },
     ghost few: { readers ≤ 8 },
     ghost worked: { 1 ≤ workers },
@@ -54,6 +62,7 @@ pub struct Options<'a> {
     ghost domained: { domain ≤ 232 },
     ghost counted: { 1 ≤ count },
     ghost turned: { 1 ≤ turns },
+    ghost leased: { lease ≤ 86400 },
 }
 
 impl Options<'_> {
@@ -80,6 +89,10 @@ impl Options<'_> {
             address: ADDRESS,
             count: 1,
             turns: 1,
+            announce: false,
+            peers: None,
+            no_multicast: false,
+            lease: 0,
         }
     }
 }

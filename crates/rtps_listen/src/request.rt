@@ -3,7 +3,7 @@
 ghost use Rattle.std.specs.Prelude.{◌≡◌, ◌≤◌, option_map};
 ghost use Rattle.clap.specs.Words.{found_of, rows_of};
 ghost use Rattle.rtps_listen.specs.Options.{AreOptions, batch_size, is_set, number_in, one_to, text_or, up_to};
-ghost use Rattle.rtps_listen.specs.Request.{Asks};
+ghost use Rattle.rtps_listen.specs.Request.{Asks, AsksLive};
 
 use crate::options::{ADDRESS, OWN, Options, TOPIC};
 use clap::ArgMatches;
@@ -21,6 +21,10 @@ pub enum Request<'a> {
     Samples(Options<'a>),
     /// What readers report and answer in a domain.
     Listen(Options<'a>),
+    /// The same of a participant that announces itself and its readers.
+    Announce(Options<'a>),
+    /// An option that only a participant which announces itself has, of one that doesn't.
+    Stray(Options<'a>),
 }
 
 /// Returns the first value after this name, or else `other`.
@@ -111,6 +115,10 @@ fn options_in<'a>(matches: &ArgMatches<'a>) -> Options<'a>
         address: text_in(matches, "address", ADDRESS),
         count: one_to(65_536, number_in(matches, "count")),
         turns: one_to(100_000, number_in(matches, "turns")),
+        announce: flag_in(matches, "announce"),
+        peers: matches.get_str("peers"),
+        no_multicast: flag_in(matches, "no-multicast"),
+        lease: up_to(86_400, number_in(matches, "lease")),
     }
 }
 
@@ -132,6 +140,20 @@ pub fn request_of<'a>(found: Option<(&'a str, &ArgMatches<'a>)>) -> Request<'a>
         Request::Replay(options)
     } else if name == "samples" {
         Request::Samples(options)
+    } else {
+        live_request(options)
+    }
+}
+
+/// Returns what `listen` with these options asks for.
+#[tactic(auto, unfolding(crate::specs::Request::AsksLive))]
+fn live_request(options: Options<'_>) -> Request<'_>
+    ensures { AsksLive options.entry result }
+{
+    if options.announce {
+        Request::Announce(options)
+    } else if options.peers.is_some() || options.no_multicast || options.lease != 0 {
+        Request::Stray(options)
     } else {
         Request::Listen(options)
     }

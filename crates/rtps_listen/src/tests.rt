@@ -2,6 +2,7 @@
 
 ghost use Rattle.std.specs.Prelude.{◌≤◌};
 
+mod announcing;
 mod replay;
 
 use crate::fault::ListenFault;
@@ -101,7 +102,7 @@ fn lines_of_listen(rt: HostRuntime) -> Result<(), Fail> {
 }
 
 /// Bad lines, and what is bad of each.
-const BAD: [(&[&str], ErrorKind); 22] = [
+const BAD: [(&[&str], ErrorKind); 24] = [
     (&["dump"], ErrorKind::MissingRequiredArgument),
     (&["dump", "-", "-"], ErrorKind::UnknownArgument),
     (&["dump", "-", "--raw"], ErrorKind::UnknownArgument),
@@ -157,6 +158,11 @@ const BAD: [(&[&str], ErrorKind); 22] = [
         &["listen", "--domain", "0", "--count", "0"],
         ErrorKind::ValueValidation,
     ),
+    (
+        &["listen", "--domain", "0", "--count", "1", "--lease", "1"],
+        ErrorKind::ValueValidation,
+    ),
+    (&["replay", "-", "--announce"], ErrorKind::UnknownArgument),
 ];
 
 #[test]
@@ -178,6 +184,22 @@ fn lines_of_faults(rt: HostRuntime) -> Result<(), Fail> {
         (ListenFault::BadPrefix, "bad prefix", 2),
         (ListenFault::BadWriter, "bad writer", 2),
         (ListenFault::BadAddress, "bad address", 2),
+        (ListenFault::BadPeers, "bad peers", 2),
+        (
+            ListenFault::OnlyAnnounced,
+            "--peers, --no-multicast and --lease need --announce",
+            2,
+        ),
+        (
+            ListenFault::TooLong,
+            "a topic is too long to be announced",
+            2,
+        ),
+        (
+            ListenFault::NoPorts(7410, 7649),
+            "no two ports of 7410 to 7649 are free",
+            4,
+        ),
         (ListenFault::Socket, "socket fault", 4),
         (
             ListenFault::Run(RunFault::CannotRead),

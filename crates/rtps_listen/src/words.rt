@@ -86,7 +86,7 @@ fn live_command<'a>(alloc: Global) -> Result<Command<'a>, AllocError>
         "Runs readers on the datagrams of a domain, and sends what they answer",
     );
     let command = with_ends(alloc, with_place(alloc, command)?)?;
-    with_options(alloc, command)
+    with_options(alloc, with_reach(alloc, command)?)
 }
 
 /// Adds the options for the domain and the address.
@@ -105,6 +105,19 @@ fn with_ends<'a>(alloc: Global, command: Command<'a>) -> Result<Command<'a>, All
     ensures { IfOk result (λ c. IsPlainApp c (line.with_ends (app_of command.entry))) }
 {
     command.arg(count(alloc))?.arg(turns(alloc))
+}
+
+/// Adds the options for how the participant announces itself.
+#[tactic(auto, unfolding(crate::specs::Line::with_reach))]
+fn with_reach<'a>(alloc: Global, command: Command<'a>) -> Result<Command<'a>, AllocError>
+    requires { (out-Command command).has_globals ≡ false }
+    ensures { IfOk result (λ c. IsPlainApp c (line.with_reach (app_of command.entry))) }
+{
+    command
+        .arg(announce(alloc))?
+        .arg(peers(alloc))?
+        .arg(no_multicast(alloc))?
+        .arg(lease(alloc))
 }
 
 /// Adds the options of a subcommand that runs readers.
@@ -300,6 +313,43 @@ fn address<'a>(alloc: Global) -> Arg<'a>
         .help("The address to receive at: one of this machine, or 0.0.0.0 for all of them")
         .long("address")
         .default_value(ADDRESS)
+}
+
+fn announce<'a>(alloc: Global) -> Arg<'a>
+    ensures { IsPlainRule result line.announce_rule }
+{
+    Arg::new(alloc, "announce")
+        .help("The participant announces itself and its readers, at the first free ports")
+        .long("announce")
+        .action(ArgAction::SetTrue)
+}
+
+fn peers<'a>(alloc: Global) -> Arg<'a>
+    ensures { IsPlainRule result line.peers_rule }
+{
+    Arg::new(alloc, "peers")
+        .value_name("ADDRESSES")
+        .help("Where it announces itself besides, 12 addresses at most with commas between them")
+        .long("peers")
+}
+
+fn no_multicast<'a>(alloc: Global) -> Arg<'a>
+    ensures { IsPlainRule result line.no_multicast_rule }
+{
+    Arg::new(alloc, "no-multicast")
+        .help("It doesn't announce itself to the group of the domain")
+        .long("no-multicast")
+        .action(ArgAction::SetTrue)
+}
+
+fn lease<'a>(alloc: Global) -> Arg<'a>
+    ensures { IsPlainRule result line.lease_rule }
+{
+    Arg::new(alloc, "lease")
+        .value_name("SECONDS")
+        .help("How long others remember it while it is silent, 2 to 86400 (10)")
+        .long("lease")
+        .value_parser(value_parser!(u32).range(2..86_401))
 }
 
 /// Returns what clap finds in the words. This, or the error if the line is a bad one, depends on

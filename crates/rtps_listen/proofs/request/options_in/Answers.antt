@@ -23,4 +23,8 @@ returns c = record {
   address = c.text_in-4.ensures;
   count = c.one_to-2.ensures.value ∙ ap (one_to 65536) c.number_in-6.ensures;
   turns = c.one_to-3.ensures.value ∙ ap (one_to 100000) c.number_in-7.ensures;
+  announce = c.flag_in-4.ensures;
+  peers = c.get_str-2.ensures ∙ first_value-rows (found_of c.args.matches.now) (codes "peers");
+  no_multicast = c.flag_in-5.ensures;
+  lease = c.up_to-3.ensures.value ∙ ap (up_to 86400) c.number_in-8.ensures;
 }
