@@ -287,6 +287,103 @@ def forgets_who_is_silent(program):
         running.ends("status 0 1 0 0 - 0 0\n")
 
 
+OTHER = "0c" * 12
+"""The prefix of the program where it announces itself."""
+HEARS_READERS = "5800040014000000", "580004003f000000"
+"""The endpoints that the peer has, and those of one that hears announcements of readers."""
+INFINITE, ZERO = "ffffff7fffffffff", "00" * 8
+
+
+def parameters(*pairs):
+    """A parameter list in hex, by ids and values."""
+    return "".join(f"{name}{len(value) // 2:02x}00{value}" for name, value in pairs) + "01000000"
+
+
+def change(to, flags, reader, writer, number, payload):
+    """A datagram of the program with a DATA, to the participant with this prefix or to everyone (DDSI-RTPS 9.4.5.4)."""
+    body = "00001000" + reader + writer + "00000000" + number.to_bytes(4, "little").hex() + payload
+    front = "5254505302050000" + OTHER + ("0e010c00" + to if to else "")
+    return front + "15" + flags + (len(body) // 2).to_bytes(2, "little").hex() + body
+
+
+def hello(own, lease, to="", port=DISCOVERY):
+    """The datagram by which its participant announces itself (DDSI-RTPS 8.5.3): version 2.5, no vendor, its guid, the locators of
+    its ports, its lease in seconds, and its endpoints: announcers and detectors of participants and readers, detector of writers."""
+    locators = ["01000000" + at.to_bytes(4, "little").hex() + "00" * 12 + "7f000001" for at in (port, port + 1)]
+    record = parameters(("1500", "02050000"), ("1600", "00000000"), ("5000", OTHER + "000001c1"), ("3200", locators[0]),
+                        ("3100", locators[1]), ("0200", lease.to_bytes(8, "little").hex()), ("5800", "3b000000"))
+    return change(to, "05", "000100c7", "000100c2", 1, "00030000" + record).replace(OTHER, own)
+
+
+def farewell(to=""):
+    """The datagram by which its participant leaves: the hash of its key and the status, disposed and unregistered, and its guid."""
+    guid = OTHER + "000001c1"
+    gone = parameters(("7000", guid), ("7100", "00000003")) + "00030000" + parameters(("5000", guid))
+    return change(to, "0b", "000100c7", "000100c2", 2, gone)
+
+
+READER = change(A, "05", "000004c7", "000004c2", 1, "00030000" + parameters(
+    ("5a00", OTHER + "00000107"), ("5000", OTHER + "000001c1"), ("0500", "07000000" + b"Square".hex() + "0000"),
+    ("0700", "0a000000" + b"ShapeType".hex() + "000000"), ("1d00", "00" * 4), ("2100", ZERO), ("2300", INFINITE), ("2700", ZERO),
+    ("1f00", "00" * 4), ("1b00", "00" * 4 + INFINITE), ("1a00", "02000000" + ZERO), ("2500", "00" * 4)))
+"""The peer is told of the reader, its first change (DDSI-RTPS 8.5.4): guids, topic and type, and then what it asks for: volatile,
+of no presentation, deadline and latency budget, shared, automatic liveliness without end, reliable, by order of reception."""
+READER_BEATS = "5254505302050000" + OTHER + "0e010c00" + A + "07011c00" + "000004c7000004c2" + "0000000001000000" * 2 + "01000000"
+"""The announcer of readers says that it has number 1, and asks for an answer."""
+
+
+def announcing(program, *words):
+    """The program announces itself to the first participants of this machine, and to no group."""
+    return Running(program, "--announce", "--peers", HOST, "--no-multicast", *words)
+
+
+def announces_itself(program):
+    """It announces itself to whoever may be there. A peer that is found is told farewell, then greeted and told of the reader; its
+    sample is presented; and at the end everyone is told farewell, the peer once more by itself."""
+    with peer(PEER) as own, announcing(program, "--count", "3", "--lease", "7", "--own", OTHER) as running:
+        own.settimeout(SECONDS)
+        octets, sender = own.recvfrom(65_536)
+        look("what everyone is told", (octets.hex(), sender), (hello(OTHER, 7), (HOST, DISCOVERY)))
+        own.sendto(bytes.fromhex(HEADER + ANNOUNCED.replace(*HEARS_READERS)), (HOST, DISCOVERY))
+        look("what the peer is told", told(own, 4), [farewell(A), hello(OTHER, 7, A), READER, READER_BEATS])
+        own.sendto(bytes.fromhex(HEADER + PUBLISHED), (HOST, DISCOVERY))
+        own.sendto(sample(1), (HOST, USER))
+        running.ends(f"1:1 reader 0 matched {WRITER}\n" + sample_line(2, 1))
+        look("the last words", told(own, 2), [farewell(), farewell(A)])
+
+
+def told(own, count):
+    """The next datagrams that come to the peer, in hex, but for what everyone is told each second and what the reader's announcer
+    asks for again."""
+    got = []
+    while len(got) < count:
+        octets = own.recv(65_536).hex()
+        if octets != hello(OTHER, 7) and (octets == READER_BEATS or not octets.startswith(READER_BEATS[:-8])):
+            got.append(octets)
+    return got
+
+
+def takes_the_first_free_ports(program):
+    """Two programs at one address are the domain's first participants; each announces its own ports, by a prefix of its own, which
+    begins with 0b twice and the address. They hear one another, and have nothing to answer."""
+    with peer(7414) as own, announcing(program, "--count", "100") as first:
+        wait_until_bound()
+        with announcing(program, "--count", "100") as second:
+            own.settimeout(SECONDS)
+            heard = {}
+            while len(heard) < 2:
+                octets, (_, port) = own.recvfrom(65_536)
+                heard[port] = octets.hex()
+            look("the ports from which it is announced", sorted(heard), [DISCOVERY, PEER])
+            prefixes = {port: octets[16:40] for port, octets in heard.items()}
+            look("what is announced", heard, {port: hello(prefix, 10, "", port) for port, prefix in prefixes.items()})
+            look("the prefixes", sorted(prefix[:12] for prefix in set(prefixes.values())), ["0b0b7f000001"] * 2)
+            for running, port in ((first, DISCOVERY), (second, PEER)):
+                for _ in range(200):
+                    own.sendto(b"?", (HOST, port))
+                running.ends("")
+
+
 def ends_after_its_turns(program):
     """Where nothing comes it ends all the same, after turns of a tenth of a second."""
     begun = time.monotonic()
@@ -314,6 +411,13 @@ def refuses_bad_options_first(program):
         running.ends("", 2, "rtps_listen: bad writer\n")
     with peer(USER), Running(program, "--count", "1", "--address", "127.0.0") as running:
         running.ends("", 2, "rtps_listen: bad address\n")
+    for words, fault in (
+        (("--announce", "--address", "0.0.0.0"), "bad address"),
+        (("--announce", "--peers", "127.0.0.1,"), "bad peers"),
+        (("--lease", "5"), "--peers, --no-multicast and --lease need --announce"),
+    ):
+        with Running(program, "--count", "1", *words) as running:
+            running.ends("", 2, f"rtps_listen: {fault}\n")
 
 
 RUNS = (
@@ -328,6 +432,8 @@ RUNS = (
     prints_what_comes_in_order,
     prints_at_once,
     forgets_who_is_silent,
+    announces_itself,
+    takes_the_first_free_ports,
     ends_after_its_turns,
     says_that_a_port_is_taken,
     refuses_an_address_of_another_machine,

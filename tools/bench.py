@@ -33,7 +33,6 @@ from statistics import median
 from typing import NamedTuple
 
 import loads
-from announce import whole
 
 COMMANDS = ("replay", "dump", "samples", "explain")
 COLUMNS = ("load", "command", "workers", "datagrams", "median clock", "least clock", "processor", "memory",
@@ -193,6 +192,15 @@ def measure_program(load, count, due, line):
         for workers in line.workers if command == "replay" else "-":
             job = load._replace(words=words + ["--workers", workers] * (workers != "-"))
             show([load.load, command, workers, str(count), *row(job, count, line)])
+
+
+def whole(least, most):
+    """A number of the command line."""
+    def read(words):
+        if not (words.isascii() and words.isdigit() and least <= int(words) <= most):
+            raise argparse.ArgumentTypeError(f"{words!r} is no number from {least} to {most}")
+        return int(words)
+    return read
 
 
 def workers_of(words):

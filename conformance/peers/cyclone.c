@@ -1,39 +1,66 @@
-/* A reliable writer of Eclipse Cyclone DDS.
+/* A reliable writer of Eclipse Cyclone DDS, of the type of the Shapes demo.
 
-       cyclone DOMAIN TOPIC READERS SAMPLES [wait]
+       cyclone DOMAIN TOPIC STEP..
 
-   It waits for as many readers, and says `matched`; with `wait` it then waits for the end of standard input. It writes the
-   shapes BLUE at i, 2 i of size 30 for i from 1 on, waits until the reliable readers have acknowledged them, says
-   `acknowledged`, waits until the readers have left, and says `alone`. Its status is 0; 1 and a word on standard error where
-   a wait ends badly; 2 for a bad line. */
+   It takes the steps one after the other, and leaves at the end:
+
+       matched N      waits until N readers are matched, and says `N matched`
+       matched N/T    the same, and until T have been matched in all
+       write N        writes the next N shapes, BLUE at i, 2 i of size 30 for i from 1 on, 2 ms apart
+       acks S         waits up to S seconds until the matched reliable readers have acknowledged all, and says `acknowledged`,
+                      or else `not acknowledged`
+       line           waits for a line of standard input, or for its end
+
+   Its status is 0; 1 and a word on standard error where the readers don't come or leave within a minute, or where something can't be
+   done; 2 for a bad line. */
 #include "ShapeType.h"
 #include "dds/dds.h"
 #include <stdio.h>
 #include <stdlib.h>
+#include <string.h>
 
-static dds_entity_t good(dds_entity_t entity) {
-    if (entity < 0) {
-        fprintf(stderr, "cyclone: %s\n", dds_strretcode(-entity));
+static dds_return_t good(dds_return_t result) {
+    if (result < 0) {
+        fprintf(stderr, "cyclone: %s\n", dds_strretcode(-result));
         exit(1);
     }
-    return entity;
+    return result;
 }
 
-static void say(const char *what) {
-    puts(what);
-    fflush(stdout);
-}
-
-/* Waits up to 30 seconds until as many readers are matched. */
-static void wait_for_readers(dds_entity_t writer, unsigned count) {
+static void wait_for_readers(dds_entity_t writer, const char *wanted) {
+    unsigned now = 0, in_all = 0;
+    sscanf(wanted, "%u/%u", &now, &in_all);
     dds_publication_matched_status_t status;
-    for (int turn = 0; turn < 3000; turn++) {
+    for (int turn = 0; turn < 12000; turn++) {
         good(dds_get_publication_matched_status(writer, &status));
-        if (status.current_count == count) return;
-        dds_sleepfor(DDS_MSECS(10));
+        if (status.current_count == now && status.total_count >= in_all) {
+            printf("%u matched\n", now);
+            return;
+        }
+        dds_sleepfor(DDS_MSECS(5));
     }
-    fprintf(stderr, "cyclone: %u readers are matched, and not %u\n", status.current_count, count);
+    fprintf(stderr, "cyclone: %u readers are matched, and not %s\n", status.current_count, wanted);
     exit(1);
+}
+
+static void write_shapes(dds_entity_t writer, int count) {
+    static int last;
+    for (int end = last + count; last < end;) {
+        last++;
+        ShapeType shape = {"BLUE", last, 2 * last, 30};
+        good(dds_write(writer, &shape));
+        dds_sleepfor(DDS_MSECS(2));
+    }
+}
+
+static void wait_for_acknowledgments(dds_entity_t writer, int seconds) {
+    dds_return_t result = dds_wait_for_acks(writer, DDS_SECS(seconds));
+    if (result != DDS_RETCODE_TIMEOUT) good(result);
+    puts(result == DDS_RETCODE_TIMEOUT ? "not acknowledged" : "acknowledged");
+}
+
+static void wait_for_line(void) {
+    for (int octet = 0; octet != EOF && octet != '\n';) octet = getchar();
 }
 
 static dds_entity_t reliable_writer(dds_entity_t participant, const char *name) {
@@ -47,21 +74,19 @@ static dds_entity_t reliable_writer(dds_entity_t participant, const char *name) 
 }
 
 int main(int count, char **words) {
-    if (count < 5) return 2;
+    if (count < 3) return 2;
+    setvbuf(stdout, NULL, _IOLBF, 0);
     dds_entity_t participant = good(dds_create_participant(atoi(words[1]), NULL, NULL));
     dds_entity_t writer = reliable_writer(participant, words[2]);
-    wait_for_readers(writer, atoi(words[3]));
-    say("matched");
-    while (count > 5 && getchar() != EOF) continue;
-    for (int i = 1; i <= atoi(words[4]); i++) {
-        ShapeType shape = {"BLUE", i, 2 * i, 30};
-        good(dds_write(writer, &shape));
-        dds_sleepfor(DDS_MSECS(2));
+    for (int at = 3; at < count; at++) {
+        const char *step = words[at];
+        if (!strcmp(step, "line")) wait_for_line();
+        else if (at + 1 == count) return 2;
+        else if (!strcmp(step, "matched")) wait_for_readers(writer, words[++at]);
+        else if (!strcmp(step, "write")) write_shapes(writer, atoi(words[++at]));
+        else if (!strcmp(step, "acks")) wait_for_acknowledgments(writer, atoi(words[++at]));
+        else return 2;
     }
-    good(dds_wait_for_acks(writer, DDS_SECS(20)));
-    say("acknowledged");
-    wait_for_readers(writer, 0);
-    say("alone");
     good(dds_delete(participant));
     return 0;
 }

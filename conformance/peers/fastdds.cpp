@@ -1,11 +1,18 @@
-/* A reliable writer of eProsima Fast DDS, on loopback, of the second participant of a domain on this machine.
+/* A reliable writer of eProsima Fast DDS, of the type of the Shapes demo, with the settings that Fast DDS has or is given.
 
-       fastdds DOMAIN TOPIC READERS SAMPLES [wait]
+       fastdds DOMAIN TOPIC STEP..
 
-   It waits for as many readers, and says `matched`; with `wait` it then waits for the end of standard input. It writes the
-   shapes BLUE at i, 2 i of size 30 for i from 1 on, waits until the reliable readers have acknowledged them, says
-   `acknowledged`, waits until the readers have left, and says `alone`. Its status is 0; 1 and a word on standard error where
-   a wait ends badly; 2 for a bad line. */
+   It takes the steps one after the other, and leaves at the end:
+
+       matched N      waits until N readers are matched, and says `N matched`
+       matched N/T    the same, and until T have been matched in all
+       write N        writes the next N shapes, BLUE at i, 2 i of size 30 for i from 1 on, 2 ms apart
+       acks S         waits up to S seconds until the matched reliable readers have acknowledged all, and says `acknowledged`,
+                      or else `not acknowledged`
+       line           waits for a line of standard input, or for its end
+
+   Its status is 0; 1 and a word on standard error where the readers don't come or leave within a minute, or where something can't be
+   done; 2 for a bad line. */
 #include <cstdio>
 #include <cstdlib>
 #include <cstring>
@@ -19,8 +26,6 @@
 #include <fastdds/dds/publisher/Publisher.hpp>
 #include <fastdds/dds/topic/TopicDataType.hpp>
 #include <fastdds/dds/topic/TypeSupport.hpp>
-#include <fastdds/rtps/transport/UDPv4TransportDescriptor.h>
-#include <fastrtps/utils/IPLocator.h>
 #include <fastrtps/utils/md5.h>
 
 using namespace eprosima::fastdds::dds;
@@ -90,30 +95,9 @@ static void fail(const char *what) {
     exit(1);
 }
 
-static void say(const char *what) {
-    puts(what);
-    fflush(stdout);
-}
-
 template <class T> static T *good(T *entity) {
     if (!entity) fail("an entity can't be created");
     return entity;
-}
-
-/* UDP on loopback alone; the participant announces itself twice a second to the first participant of the domain. */
-static DomainParticipantQos loopback(int domain) {
-    DomainParticipantQos qos;
-    auto udp = std::make_shared<eprosima::fastdds::rtps::UDPv4TransportDescriptor>();
-    udp->interfaceWhiteList.push_back("127.0.0.1");
-    qos.transport().use_builtin_transports = false;
-    qos.transport().user_transports.push_back(udp);
-    qos.wire_protocol().participant_id = 1;
-    qos.wire_protocol().builtin.discovery_config.leaseDuration_announcementperiod = Duration_t(0, 500000000);
-    rtps::Locator_t first;
-    rtps::IPLocator::setIPv4(first, "127.0.0.1");
-    first.port = 7410 + 250 * domain;
-    qos.wire_protocol().builtin.initialPeersList.push_back(first);
-    return qos;
 }
 
 static DataWriterQos reliable() {
@@ -121,43 +105,62 @@ static DataWriterQos reliable() {
     qos.reliability().kind = RELIABLE_RELIABILITY_QOS;
     qos.durability().kind = VOLATILE_DURABILITY_QOS;
     qos.history().kind = KEEP_ALL_HISTORY_QOS;
-    qos.data_sharing().off();
-    qos.reliable_writer_qos().times.heartbeatPeriod = Duration_t(0, 50000000);
     return qos;
 }
 
-/* Waits up to 30 seconds until as many readers are matched. */
-static void wait_for_readers(DataWriter *writer, int count) {
+static void wait_for_readers(DataWriter *writer, const char *wanted) {
+    int now = 0, in_all = 0;
+    sscanf(wanted, "%d/%d", &now, &in_all);
     PublicationMatchedStatus status;
-    for (int turn = 0; turn < 3000; turn++) {
+    for (int turn = 0; turn < 12000; turn++) {
         writer->get_publication_matched_status(status);
-        if (status.current_count == count) return;
-        std::this_thread::sleep_for(std::chrono::milliseconds(10));
+        if (status.current_count == now && status.total_count >= in_all) {
+            printf("%d matched\n", now);
+            return;
+        }
+        std::this_thread::sleep_for(std::chrono::milliseconds(5));
     }
     fail("the readers don't come, or don't leave");
 }
 
+static void write_shapes(DataWriter *writer, int count) {
+    static int last;
+    for (int end = last + count; last < end;) {
+        last++;
+        Shape shape = {"BLUE", last, 2 * last, 30};
+        if (!writer->write(&shape)) fail("a sample can't be written");
+        std::this_thread::sleep_for(std::chrono::milliseconds(2));
+    }
+}
+
+static void wait_for_acknowledgments(DataWriter *writer, int seconds) {
+    bool acknowledged = writer->wait_for_acknowledgments(Duration_t(seconds, 0)) == ReturnCode_t::RETCODE_OK;
+    puts(acknowledged ? "acknowledged" : "not acknowledged");
+}
+
+static void wait_for_line() {
+    for (int octet = 0; octet != EOF && octet != '\n';) octet = getchar();
+}
+
 int main(int count, char **words) {
-    if (count < 5) return 2;
-    int domain = atoi(words[1]);
+    if (count < 3) return 2;
+    setvbuf(stdout, NULL, _IOLBF, 0);
     auto factory = DomainParticipantFactory::get_instance();
-    DomainParticipant *participant = good(factory->create_participant(domain, loopback(domain)));
+    factory->load_profiles();
+    DomainParticipant *participant = good(factory->create_participant(atoi(words[1]), factory->get_default_participant_qos()));
     TypeSupport type(new ShapeSupport());
     type.register_type(participant);
     Topic *topic = good(participant->create_topic(words[2], "ShapeType", TOPIC_QOS_DEFAULT));
     DataWriter *writer = good(good(participant->create_publisher(PUBLISHER_QOS_DEFAULT))->create_datawriter(topic, reliable()));
-    wait_for_readers(writer, atoi(words[3]));
-    say("matched");
-    while (count > 5 && getchar() != EOF) continue;
-    for (int i = 1; i <= atoi(words[4]); i++) {
-        Shape shape = {"BLUE", i, 2 * i, 30};
-        if (!writer->write(&shape)) fail("a sample can't be written");
-        std::this_thread::sleep_for(std::chrono::milliseconds(2));
+    for (int at = 3; at < count; at++) {
+        std::string step = words[at];
+        if (step == "line") wait_for_line();
+        else if (at + 1 == count) return 2;
+        else if (step == "matched") wait_for_readers(writer, words[++at]);
+        else if (step == "write") write_shapes(writer, atoi(words[++at]));
+        else if (step == "acks") wait_for_acknowledgments(writer, atoi(words[++at]));
+        else return 2;
     }
-    if (writer->wait_for_acknowledgments(Duration_t(20, 0)) != ReturnCode_t::RETCODE_OK) fail("the acknowledgments don't come");
-    say("acknowledged");
-    wait_for_readers(writer, 0);
-    say("alone");
     participant->delete_contained_entities();
     factory->delete_participant(participant);
     return 0;
