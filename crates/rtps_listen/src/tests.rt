@@ -177,54 +177,57 @@ fn bad_lines(rt: HostRuntime) -> Result<(), Fail> {
     Ok(())
 }
 
+/// Faults, with the text and the exit status of each.
+const FAULTS: [(ListenFault, &str, u8); 16] = [
+    (ListenFault::NoText, "a word is not text", 2),
+    (ListenFault::BadPrefix, "bad prefix", 2),
+    (ListenFault::BadWriter, "bad writer", 2),
+    (ListenFault::BadAddress, "bad address", 2),
+    (ListenFault::BadPeers, "bad peers", 2),
+    (
+        ListenFault::OnlyAnnounced,
+        "--peers, --no-multicast and --lease need --announce",
+        2,
+    ),
+    (
+        ListenFault::TooLong,
+        "a topic is too long to be announced",
+        2,
+    ),
+    (
+        ListenFault::NoPorts(7410, 7649),
+        "no two ports of 7410 to 7649 are free",
+        4,
+    ),
+    (ListenFault::Socket, "socket fault", 4),
+    (
+        ListenFault::Run(RunFault::CannotRead),
+        "cannot read the file",
+        3,
+    ),
+    (
+        ListenFault::Run(RunFault::NotRecordFile),
+        "not an RDG1 file",
+        3,
+    ),
+    (ListenFault::Run(RunFault::CutRecord(7)), "cut record 7", 3),
+    (
+        ListenFault::Run(RunFault::RecordTooLong(0)),
+        "record 0 too long",
+        3,
+    ),
+    (
+        ListenFault::Run(RunFault::TooManyRecords),
+        "too many records",
+        3,
+    ),
+    (ListenFault::Run(RunFault::CannotWrite), "cannot write", 3),
+    (ListenFault::Run(RunFault::NoMemory), "out of memory", 5),
+];
+
 #[test]
 fn lines_of_faults(rt: HostRuntime) -> Result<(), Fail> {
-    for (fault, line, status) in [
-        (ListenFault::NoText, "a word is not text", 2u8),
-        (ListenFault::BadPrefix, "bad prefix", 2),
-        (ListenFault::BadWriter, "bad writer", 2),
-        (ListenFault::BadAddress, "bad address", 2),
-        (ListenFault::BadPeers, "bad peers", 2),
-        (
-            ListenFault::OnlyAnnounced,
-            "--peers, --no-multicast and --lease need --announce",
-            2,
-        ),
-        (
-            ListenFault::TooLong,
-            "a topic is too long to be announced",
-            2,
-        ),
-        (
-            ListenFault::NoPorts(7410, 7649),
-            "no two ports of 7410 to 7649 are free",
-            4,
-        ),
-        (ListenFault::Socket, "socket fault", 4),
-        (
-            ListenFault::Run(RunFault::CannotRead),
-            "cannot read the file",
-            3,
-        ),
-        (
-            ListenFault::Run(RunFault::NotRecordFile),
-            "not an RDG1 file",
-            3,
-        ),
-        (ListenFault::Run(RunFault::CutRecord(7)), "cut record 7", 3),
-        (
-            ListenFault::Run(RunFault::RecordTooLong(0)),
-            "record 0 too long",
-            3,
-        ),
-        (
-            ListenFault::Run(RunFault::TooManyRecords),
-            "too many records",
-            3,
-        ),
-        (ListenFault::Run(RunFault::CannotWrite), "cannot write", 3),
-        (ListenFault::Run(RunFault::NoMemory), "out of memory", 5),
-    ] {
+    for (fault, line, status) in FAULTS {
         let text = format!(in rt.alloc(); "{fault}")?;
         assert_eq!(rt; text.as_str(), line);
         assert_eq!(rt; fault.status(), status);
