@@ -6,6 +6,7 @@ use Rattle.logbook.specs.Pages.{Book}
 use Rattle.dds_outlet.specs.declared.history.Front.{Front}
 use Rattle.dds_outlet.specs.declared.row.Look.{Look}
 use Rattle.dds_outlet.specs.declared.row.RowView.{RowView}
+use Rattle.dds_outlet.specs.History.{rows_of}
 use Rattle.dds_outlet.specs.Rows.{look_at}
 
 -- rows of a board, the opening row first: all that it has shown, or all that a reader knows
@@ -16,7 +17,7 @@ pub record RowsView : Type 0 where
 
 -- the rows up to a front
 abbrev pub rows_upto : Front → RowsView
-rows_upto front = record { board = front.seen.book; rows = front.seen.log }
+rows_upto front = record { board = front.seen.book; rows = rows_of front.seen.log }
 
 -- a look showed the last row that is known after it; the rows known after it begin with those known
 -- before

@@ -1,18 +1,21 @@
 //! The board of statuses.
 
-ghost use Rattle.std.specs.Prelude.{◌≡◌, ◌≤◌, ◌⊎◌, [], ◌∷◌, ◌++◌, IfOk, IfSome, MatchResult};
+ghost use Rattle.std.specs.Prelude.{◌≡◌, ◌≤◌, ◌⊎◌, ◌^◌, [], ◌∷◌, ◌++◌, IfOk, IfSome, MatchResult, length};
 ghost use mathlib.Core.List.{IsPrefix};
 ghost use Rattle.left_right.specs.Sides.{view};
 ghost use Rattle.dds_outlet.specs.Rows.{look_at, opening, row_view};
-ghost use Rattle.dds_outlet.specs.Knowing.{Sees};
+ghost use Rattle.dds_outlet.specs.History.{rows_of};
+ghost use Rattle.dds_outlet.specs.Knowing.{Knows, Sees};
 ghost use Rattle.dds_outlet.specs.Ends.{Looks};
+ghost use Rattle.dds_outlet.specs.Looking.{Finds, FindsIn};
 
 use crate::history::{Front, Head};
 use crate::row::{IDLE, Look, Row};
 use crate::rule::{Known, OneHistory, Same, Takes};
 use crate::shown::Shown;
+use crate::told::{Told, Unseen};
 use core::mem::replace_with;
-use left_right::reader::Reader;
+use left_right::reader::{Reader, Reading};
 use left_right::writer::Writer;
 use std::alloc::{AllocError, Global};
 use std::marker::Model;
@@ -21,6 +24,8 @@ use std::sync::Wait;
 type BoardWriter = Writer<Shown, u64, Known, OneHistory>;
 
 type BoardReader = Reader<Shown, Known, OneHistory>;
+
+type BoardReading = Reading<Shown, Known, OneHistory>;
 
 /// The end of a board that publishes rows, for the thread that receives. Contracts see all rows
 /// published so far, the opening row first.
@@ -41,15 +46,15 @@ type BoardReader = Reader<Shown, Known, OneHistory>;
 /// board.end(&rt);
 /// ```
 pub struct StatusBoard {
-    writer: BoardWriter,
-    /// The number of the last row. No other end has it, so no other end adds rows.
-    head: Head,
+    pub(crate) writer: BoardWriter,
+    /// The right to add rows. No other end has it, so no other end adds rows.
+    pub(crate) head: Head,
 }
 
 impl Model for StatusBoard {
     ghost use Rattle.std.specs.Prelude.{◌≡◌};
     ghost use Rattle.left_right.specs.Sides.{view as known_by};
-    ghost use Rattle.dds_outlet.specs.History.{head_of};
+    ghost use Rattle.dds_outlet.specs.History.{Leads};
     ghost use Rattle.dds_outlet.specs.Knowing.{Knows};
     ghost use Rattle.dds_outlet.specs.Ends.{RowsView, rows_upto};
 
@@ -58,7 +63,8 @@ impl Model for StatusBoard {
     ghost view = { λ b. rows_upto b.writer.desk.shown.value.front };
 
     ghost invariant = { λ b.
-        (b.head ≡ head_of b.writer.desk.shown.value.front.seen.book)
+        Leads b.head b.writer.desk.shown.value.front.seen.book
+        b.writer.desk.shown.value.front.seen.log
         × Knows (known_by b.writer.desk.place) b.writer.desk.shown.value.front.seen.book };
 }
 
@@ -80,21 +86,6 @@ impl Model for StatusReader {
     ghost view = { λ r. rows_upto r.front };
 
     ghost invariant = { λ r. Knows (known_by r.reader.place) r.front.seen.book };
-}
-
-/// The rows published up to some moment. It can be sent to any thread, for a [`StatusReader`] to
-/// learn. Contracts see those rows.
-#[derive(Drop)]
-pub struct Told {
-    front: Front,
-}
-
-impl Model for Told {
-    ghost use Rattle.dds_outlet.specs.Ends.{RowsView, rows_upto};
-
-    ghost Value = { RowsView };
-
-    ghost view = { λ t. rows_upto t.front };
 }
 
 /// Returns a row of idle statuses, for the ranks below `readers`.
@@ -148,10 +139,11 @@ fn put_up<R: Wait>(rt: &R, board: StatusBoard, row: Row) -> (StatusBoard, Result
     ensures board { result.0.board ≡ board.board }
     ensures rows { MatchResult result.1
         (λ _. result.0.rows ≡ board.rows ++ row_view row ∷ [])
-        (λ back. (back ≡ row) × (result.0.rows ≡ board.rows)) }
+        (λ back. (back ≡ row) × (result.0.rows ≡ board.rows) × (length board.rows ≡ 2 ^ 64)) }
 {
     let StatusBoard { writer, head } = board;
-    match writer.published().front.added(&head, &row) {
+    let (head, added) = writer.published().front.added(head, &row);
+    match added {
         None => (StatusBoard { writer, head }, Err(row)),
         Some(front) => {
             let writer = show(rt, writer, Shown { row, front });
@@ -160,25 +152,35 @@ fn put_up<R: Wait>(rt: &R, board: StatusBoard, row: Row) -> (StatusBoard, Result
     }
 }
 
-/// Looks at a rank once.
-fn look_once(end: StatusReader, rank: u32) -> (StatusReader, Option<Look>)
-    ensures board { result.0.board ≡ end.board }
-    ensures look { Looks end.rows result.0.rows rank result.1 }
+/// Looks at a rank in the row that is shown, and leaves the board.
+fn look_in(reading: BoardReading, front: Front, rank: u32) -> (StatusReader, Result<Look, Unseen>)
+    requires { Knows (view reading.place) front.seen.book
+        × (reading.part.value.front.seen.book ≡ front.seen.book) }
+    ensures board { result.0.board ≡ front.seen.book }
+    ensures look { FindsIn (rows_of reading.part.value.front.seen.log) (rows_of front.seen.log)
+        result.0.rows rank result.1 }
 {
-    let StatusReader { reader, mut front } = end;
+    let mut front = front;
+    let shown = reading.get();
+    let found = if front.reach(&shown.front) {
+        find(&shown.row, rank).ok_or(Unseen::NoRank)
+    } else {
+        let front = shown.front.again();
+        Err(Unseen::Older(Told { front }))
+    };
+    let reader = reading.leave();
+    (StatusReader { reader, front }, found)
+}
+
+/// Looks at a rank once.
+fn look_once(end: StatusReader, rank: u32) -> (StatusReader, Result<Look, Unseen>)
+    ensures board { result.0.board ≡ end.board }
+    ensures look { Finds end.rows result.0.rows rank result.1 }
+{
+    let StatusReader { reader, front } = end;
     match reader.enter_as::<Takes>() {
-        Err(reader) => (StatusReader { reader, front }, None),
-        Ok(reading) => {
-            let shown = reading.get();
-            if !front.reach(&shown.front) {
-                // This can't happen: a reader knows only rows that were shown before.
-                let reader = reading.leave();
-                return (StatusReader { reader, front }, None);
-            }
-            let look = find(&shown.row, rank);
-            let reader = reading.leave();
-            (StatusReader { reader, front }, look)
-        }
+        Err(reader) => (StatusReader { reader, front }, Err(Unseen::NotEntered)),
+        Ok(reading) => look_in(reading, front, rank),
     }
 }
 
@@ -201,7 +203,8 @@ impl StatusBoard {
         ensures { IfOk result (λ board. board.rows ≡ opening readers ∷ []) }
     {
         let row = opening_row(alloc, readers)?;
-        let (head, front) = Front::open(&row);
+        // It is never refused, since nobody else has this history.
+        let (head, front) = Front::open(&row).ok_or(AllocError)?;
         let first = Shown {
             row: opening_row(alloc, readers)?,
             front: front.again(),
@@ -241,7 +244,8 @@ impl StatusBoard {
         ensures board { self.new.board ≡ self.old.board }
         ensures rows { MatchResult result
             (λ _. self.new.rows ≡ self.old.rows ++ row_view row ∷ [])
-            (λ back. (back ≡ row) × (self.new.rows ≡ self.old.rows)) }
+            (λ back. (back ≡ row) × (self.new.rows ≡ self.old.rows)
+            × (length self.old.rows ≡ 2 ^ 64)) }
     {
         replace_with(self, row, |board, row| put_up(rt, board, row))
     }
@@ -278,11 +282,19 @@ impl StatusReader {
     /// copies the status, a `publish` that needs this row's place in memory waits for it.
     ///
     /// `None` says that the row lacks the rank, or that the board can't be entered, as when it has
-    /// ended. By the contract it may also say that the row is older than what the reader knows;
-    /// that can't happen, since [`StatusBoard::tell`] gives only rows that were shown.
+    /// ended: [`StatusReader::try_look`] says which.
     pub fn look(&mut self, rank: u32) -> Option<Look>
         ensures board { self.new.board ≡ self.old.board }
         ensures look { Looks self.old.rows self.new.rows rank result }
+    {
+        self.try_look(rank).ok()
+    }
+
+    /// Looks as [`StatusReader::look`] does, and says why where it shows nothing. Where the board is
+    /// entered, a rank that the row has is shown.
+    pub fn try_look(&mut self, rank: u32) -> Result<Look, Unseen>
+        ensures board { self.new.board ≡ self.old.board }
+        ensures look { Finds self.old.rows self.new.rows rank result }
     {
         replace_with(self, rank, look_once)
     }

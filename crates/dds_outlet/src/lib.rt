@@ -12,8 +12,10 @@ mod rule;
 mod shown;
 #[cfg(test)]
 mod tests;
+mod told;
 
-pub use board::{StatusBoard, StatusReader, Told};
+pub use board::{StatusBoard, StatusReader};
 pub use making::outlet;
 pub use ring::{Inlet, Outlet, Sent};
 pub use row::{Look, Row, RowView};
+pub use told::{Told, Unseen};

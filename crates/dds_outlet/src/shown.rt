@@ -2,6 +2,7 @@
 
 ghost use Rattle.std.specs.Prelude.{◌≡◌, None, Some};
 ghost use Rattle.std.specs.List.{last_or};
+ghost use Rattle.dds_outlet.specs.History.{rows_of};
 ghost use Rattle.dds_outlet.specs.Rows.{row_view};
 
 use crate::history::Front;
@@ -14,7 +15,7 @@ use std::alloc::AllocError;
 pub struct Shown {
     pub row: Row,
     pub front: Front,
-    ghost ends: { last_or None front.seen.log ≡ Some (row_view row) },
+    ghost ends: { last_or None (rows_of front.seen.log) ≡ Some (row_view row) },
 }
 
 /// The table requires a type of operations. None is ever logged: the spare copy is replaced as a

@@ -267,3 +267,37 @@ fn a_reader_sees_nothing_after_the_end(rt: HostRuntime) -> Result<(), Fail> {
     assert_eq!(rt; (before, after), (OPENING, None));
     Ok(())
 }
+
+/// What a look found, in a word.
+fn cause(found: Result<Look, Unseen>) -> &'static str {
+    match found {
+        Ok(_) => "a row",
+        Err(Unseen::NoRank) => "no rank",
+        Err(Unseen::Older(_)) => "older",
+        Err(Unseen::NotEntered) => "not entered",
+    }
+}
+
+#[test]
+fn a_look_says_why_it_shows_nothing(rt: HostRuntime) -> Result<(), Fail> {
+    let unshown = row(rt.alloc(), 1, 1)?;
+    let mut board = StatusBoard::new(&rt, rt.alloc(), 1, 1)?;
+    let Some(mut reader) = board.reader() else {
+        board.end(&rt);
+        return Err(Fail::new("no reader"));
+    };
+    let shown = cause(reader.try_look(0));
+    let lacks_it = cause(reader.try_look(1));
+    // A row that is added to the history and never shown. No public call does that.
+    let StatusBoard { writer, head } = board;
+    let (_head, added) = writer.published().front.added(head, &unshown);
+    if let Some(front) = added {
+        reader.learn(Told { front });
+    }
+    let older = cause(reader.try_look(0));
+    drop(writer.take(&rt));
+    let ended = cause(reader.try_look(0));
+    assert_eq!(rt; (shown, lacks_it), ("a row", "no rank"));
+    assert_eq!(rt; (older, ended), ("older", "not entered"));
+    Ok(())
+}
