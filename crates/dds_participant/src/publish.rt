@@ -1,10 +1,11 @@
 //! Publishing the row of a participant on a board of statuses.
 
-ghost use Rattle.std.specs.Prelude.{◌≡◌, ◌∷◌, ◌++◌, [], IfOk, List, MatchResult};
+ghost use Rattle.std.specs.Prelude.{◌≡◌, ◌^◌, ◌∷◌, ◌++◌, [], IfErr, IfOk, List, MatchResult, length};
 ghost use Rattle.rtps_run.specs.Input.{Input};
 ghost use Rattle.rtps_run.specs.Standing.{ShowsAt, run_by};
 ghost use Rattle.dds_outlet.specs.Rows.{row_view};
 ghost use Rattle.dds_participant.specs.Publish.{ShowsWorld, row_of};
+ghost use Rattle.dds_participant.specs.declared.publish.PublishFault.TheVariants.{Full};
 
 use crate::participant::Participant;
 use dds_outlet::{Row, StatusBoard};
@@ -17,7 +18,7 @@ use std::sync::Wait;
 pub enum PublishFault {
     /// There was no memory for the row.
     NoMemory,
-    /// The board has no number left for a row: it has shown 2^64 - 1.
+    /// The board has no number left for a row: it has 2^64 rows with the opening row.
     Full,
 }
 
@@ -57,6 +58,7 @@ impl<C: Catalog> Participant<C> {
             (λ _. board.new.rows
             ≡ board.old.rows ++ row_of self.now.batches self.now.engine.statuses ∷ [])
             (λ _. board.new.rows ≡ board.old.rows) }
+        ensures full { IfErr result (λ fault. fault ≡ Full → length board.old.rows ≡ 2 ^ 64) }
         ensures run { (inputs : List Input) → ShowsAt C.decoding inputs self.now.engine
             → ShowsWorld (row_of self.now.batches self.now.engine.statuses)
             (run_by C.decoding self.now.engine inputs) }
