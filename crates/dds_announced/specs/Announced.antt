@@ -1,7 +1,9 @@
 -- A participant and its announcer, over the same inputs (DDSI-RTPS 8.4.7, 8.5.3, 8.5.4).
 use Rattle.std.specs.Prelude.{◌≡◌, List, ◌++◌, Bool, false, true, Option, None, Some, Result, Ok, Err}
+use Rattle.rtps_types.specs.declared.identity.GuidPrefix.{GuidPrefix}
 use Rattle.rtps_types.specs.declared.locator.Locator.{Locator}
 use Rattle.dds_topic.specs.Decoding.{Decoding}
+use Rattle.rtps_discovery.specs.declared.config.ReaderConfig.{ReaderConfig}
 use Rattle.rtps_discovery.specs.declared.faults.ConfigFault.{ConfigFault}
 use Rattle.rtps_run.specs.Input.{Input}
 use Rattle.rtps_run.specs.declared.errors.EngineError.{EngineError}
@@ -18,8 +20,10 @@ use Rattle.dds_announced.specs.declared.announcing.AnnouncedError.{AnnouncedErro
 use Rattle.dds_announced.specs.declared.announcing.AnnouncedError.TheVariants as begin
 use Rattle.dds_announced.specs.declared.announcement.Announcement.{Announcement}
 use Rattle.dds_announced.specs.declared.speaker.Speaker.{Speaker}
+use Rattle.dds_announced.specs.declared.voice.VoiceFault.{VoiceFault}
+use Rattle.dds_announced.specs.declared.voice.VoiceFault.TheVariants as voice
 use Rattle.dds_announced.specs.Hearings.{all_heard, heard_at}
-use Rattle.dds_announced.specs.Speaker.{announcements}
+use Rattle.dds_announced.specs.Speaker.{announcements, has_long}
 
 pub record AnnouncedView (C V : Type 0) : Type 0 where
   -- a call was refused memory, in either part
@@ -82,6 +86,19 @@ Begins fault checked (Err begin.NoMemory) = fault ≡ None
 abbrev pub refused_by : StartError → AnnouncedError
 refused_by (start.Config f) = begin.Config f
 refused_by start.NoMemory = begin.NoMemory
+
+-- why it can't be made, by why it has no voice
+abbrev pub voiceless_by : VoiceFault → AnnouncedError
+voiceless_by (voice.Announcing f) = begin.Announcing f
+voiceless_by voice.TooLong = begin.TooLong
+voiceless_by voice.NoMemory = begin.NoMemory
+
+-- where it can't be made for the length of a record, a reader has one that is too long
+abbrev pub BlamesReader : GuidPrefix → List ReaderConfig → AnnouncedError → Type 0
+BlamesReader own readers begin.TooLong = has_long own readers ≡ true
+BlamesReader own readers begin.NoMemory = Unit {0}
+BlamesReader own readers (begin.Announcing f) = Unit {0}
+BlamesReader own readers (begin.Config f) = Unit {0}
 
 -- What each call promises of both parts, as one: where one list of inputs brought them, that list
 -- with the inputs of the call brings them after it.

@@ -1,6 +1,6 @@
 //! A participant that announces itself and its readers (DDSI-RTPS 8.4.7, 8.5.3, 8.5.4).
 //!
-//! [`AnnouncedParticipant`] holds a participant and its announcer, and has both take the same
+//! [`AnnouncedParticipant`] holds a participant and its [`Voice`], and has both take the same
 //! datagrams and the same moments, so that nobody can feed one of them alone. Each call puts at
 //! the end of a list of the caller's what is to be sent by then: an [`Announcement`] is a datagram,
 //! and whom it is for. [`Announcing`] says how a participant is to announce itself; [`Speaker`]

@@ -15,31 +15,29 @@ ghost use Rattle.dds_participant.specs.Decode.{octets_of};
 ghost use Rattle.dds_participant.specs.Handing.{IsHandedOn};
 ghost use Rattle.dds_participant.specs.Kept.{TakesBatch, TakesTick, counted};
 ghost use Rattle.dds_participant.specs.Ports.{NoneAttached};
-ghost use Rattle.dds_announced.specs.Announced.{Announces, Begins, IsSame, Refuses, refused_by, seen};
+ghost use Rattle.dds_announced.specs.Announced.{Announces, Begins, BlamesReader, IsSame, Refuses, refused_by, seen, voiceless_by};
 ghost use Rattle.dds_announced.specs.Announcing.{fault_of};
 ghost use Rattle.dds_announced.specs.Hearings.{heard_at};
 ghost use Rattle.dds_announced.specs.Speaker.{announcements as announcements_of, own_readers};
 
 use crate::announcement::Announcement;
 use crate::announcing::{AnnouncedError, Announcing};
-use crate::hearing::{hear_all, join_all};
-use crate::speaker::Speaker;
+use crate::hearing::hear_all;
+use crate::voice::{Voice, VoiceFault};
 use dds_participant::{Participant, Workers};
 use dds_topic::Catalog;
-use rtps_announcement::RecordFault;
-use rtps_announcer::Announcer;
 use rtps_discovery::Config;
 use rtps_run::{BatchOutput, DATAGRAM_LIMIT, EngineError, StartError};
 use rtps_shards::Gate;
-use rtps_types::{Datagram, Locator, Locators};
+use rtps_types::{Datagram, Locator};
 use std::alloc::Global;
 use std::marker::Model;
 use std::mem;
 use std::thread::Threads;
 
 /// A participant that announces itself and its readers (DDSI-RTPS 8.5.3, 8.5.4): a
-/// [`Participant`], and an [`Announcer`] that hears all that it takes. Each call puts at the end of
-/// a list of the caller's what is to be sent by then.
+/// [`Participant`], and a [`Voice`] that hears all that it takes. Each call puts at the end of a list
+/// of the caller's what is to be sent by then.
 ///
 /// When a call is refused memory, in either part, both have failed: from then on each call returns
 /// [`EngineError::Failed`], and nothing is announced. One call is an exception: a reader that comes
@@ -48,9 +46,7 @@ use std::thread::Threads;
 #[derive(Drop)]
 pub struct AnnouncedParticipant<C: Catalog> {
     pub(crate) participant: Participant<C>,
-    pub(crate) announcer: Announcer,
-    pub(crate) speaker: Speaker,
-    everyone: Locators,
+    pub(crate) voice: Voice,
     alloc: Global,
     /// The number of datagrams taken.
     taken: u64,
@@ -68,14 +64,25 @@ impl<C: Catalog> Model for AnnouncedParticipant<C> {
     ghost view = { λ p. record {
       failed = p.failed;
       run = p.participant;
-      announcer = p.announcer;
-      speaker = p.speaker;
-      everyone = p.everyone;
+      announcer = p.voice.announcer;
+      speaker = p.voice.speaker;
+      everyone = p.voice.everyone;
     } };
 
     // Where nothing has failed, neither part has, and both have taken the same datagrams.
     ghost invariant = { λ p. p.failed ≡ false → (p.participant.engine.failed ≡ false)
-        × (p.announcer.failed ≡ false) × (p.taken ≡ p.participant.engine.index) };
+        × (p.voice.announcer.failed ≡ false) × (p.taken ≡ p.participant.engine.index) };
+}
+
+/// Returns why a participant that announces itself could not be made, by why it has no voice.
+fn voiceless(fault: VoiceFault) -> AnnouncedError
+    ensures { result ≡ voiceless_by fault }
+{
+    match fault {
+        VoiceFault::Announcing(fault) => AnnouncedError::Announcing(fault),
+        VoiceFault::TooLong => AnnouncedError::TooLong,
+        VoiceFault::NoMemory => AnnouncedError::NoMemory,
+    }
 }
 
 /// Returns why a participant that announces itself could not be made, by why it could not be started.
@@ -104,6 +111,7 @@ impl<C: Catalog> AnnouncedParticipant<C> {
         catalog: C,
     ) -> Result<AnnouncedParticipant<C>, AnnouncedError>
         ensures begins { Begins (fault_of announcing) (check_of config) result }
+        ensures too_long { IfErr result (BlamesReader config.own config.readers.items) }
         ensures same { IfOk result (λ p. (p.run.engine.catalog ≡ catalog)
             × (p.run.engine.config ≡ config) × (p.run.batches ≡ 0) × (p.failed ≡ false)) }
         ensures counters { IfOk result (λ p. (p.run.counters.received ≡ none_counted)
@@ -118,30 +126,14 @@ impl<C: Catalog> AnnouncedParticipant<C> {
         ensures readers { IfOk result (λ p. p.speaker.readers.items
             ≡ own_readers config.own config.readers.items) }
     {
-        if let Some(fault) = announcing.fault() {
-            return Err(AnnouncedError::Announcing(fault));
-        }
-        let Announcing {
-            rules,
-            here,
-            everyone,
-        } = announcing;
-        let mut speaker = Speaker::new(alloc, config.own, here);
-        match speaker.add_all(alloc, &config.readers) {
-            Ok(()) => {}
-            Err(RecordFault::TooLong) => return Err(AnnouncedError::TooLong),
-            Err(RecordFault::NoMemory) => return Err(AnnouncedError::NoMemory),
-        }
-        let mut announcer = Announcer::new(alloc, config.own, rules);
-        let Ok(()) = join_all(alloc, &mut announcer, &config.readers) else {
-            return Err(AnnouncedError::NoMemory);
+        let voice = match Voice::new(alloc, &config, announcing) {
+            Ok(voice) => voice,
+            Err(fault) => return Err(voiceless(fault)),
         };
         match Participant::new(alloc, config, catalog) {
             Ok(participant) => Ok(AnnouncedParticipant {
                 participant,
-                announcer,
-                speaker,
-                everyone,
+                voice,
                 alloc,
                 taken: 0,
                 failed: false,
@@ -162,7 +154,7 @@ impl<C: Catalog> AnnouncedParticipant<C> {
     pub fn everyone(&self) -> &[Locator]
         ensures { result.now ≡ self.now.everyone }
     {
-        self.everyone.as_slice()
+        self.voice.everyone()
     }
 
     /// Processes the next datagrams as [`Participant::run_in_order`] does, has the announcer hear
@@ -230,10 +222,10 @@ impl<C: Catalog> AnnouncedParticipant<C> {
         // Failed until all is done: a return before leaves it so, and the lists empty.
         self.failed = true;
         let lent = mem::replace(given, BatchOutput::new(alloc));
-        let Ok(sends) = hear_all(alloc, &mut self.announcer, datagrams) else {
+        let Ok(sends) = hear_all(alloc, &mut self.voice.announcer, datagrams) else {
             return Err(EngineError::NoMemory);
         };
-        let Ok(mut more) = self.speaker.write_for(alloc, sends, announcements) else {
+        let Ok(mut more) = self.voice.speaker.write_for(alloc, sends, announcements) else {
             return Err(EngineError::NoMemory);
         };
         *given = lent;
@@ -294,8 +286,8 @@ impl<C: Catalog> AnnouncedParticipant<C> {
         self.failed = true;
         let lent = mem::replace(given, BatchOutput::new(alloc));
         let mut sends = Vec::new(alloc);
-        self.announcer.tick(alloc, moment, &mut sends)?;
-        let mut more = self.speaker.write_all(alloc, sends)?;
+        self.voice.announcer.tick(alloc, moment, &mut sends)?;
+        let mut more = self.voice.speaker.write_all(alloc, sends)?;
         announcements.reserve(more.len())?;
         *given = lent;
         self.participant.tick_in_order(alloc, moment, given)?;
@@ -323,8 +315,8 @@ impl<C: Catalog> AnnouncedParticipant<C> {
             return Err(EngineError::Failed);
         }
         let mut sends = Vec::new(alloc);
-        self.announcer.farewell(alloc, &mut sends)?;
-        let mut more = self.speaker.write_all(alloc, sends)?;
+        self.voice.announcer.farewell(alloc, &mut sends)?;
+        let mut more = self.voice.speaker.write_all(alloc, sends)?;
         announcements.append(&mut more)?;
         Ok(())
     }

@@ -203,23 +203,23 @@ impl<C: Catalog> AnnouncedParticipant<C> {
         if self.failed {
             return Err(ReaderError::Engine(EngineError::Failed)); // the reader is dropped
         }
-        let count = self.speaker.readers.len();
-        let speaker = &mut self.speaker;
+        let count = self.voice.speaker.readers.len();
+        let speaker = &mut self.voice.speaker;
         let Ready {
             announcer,
             mut more,
-        } = match prepare_reader(alloc, &self.announcer, speaker, &reader, announcements) {
+        } = match prepare_reader(alloc, &self.voice.announcer, speaker, &reader, announcements) {
             Ok(ready) => ready,
             Err(fault) => return Err(fault),
         };
         match self.participant.add_reader(alloc, reader) {
             Ok(added) => {
                 announcements.append(&mut more)?; // there is room for them
-                self.announcer = announcer;
+                self.voice.announcer = announcer;
                 Ok(added)
             }
             Err(fault) => {
-                self.speaker.readers.truncate(count);
+                self.voice.speaker.readers.truncate(count);
                 self.failed = has_failed(fault);
                 Err(ReaderError::Engine(fault))
             }
@@ -282,14 +282,14 @@ impl<C: Catalog> AnnouncedParticipant<C> {
                 announcer,
                 mut more,
             },
-        ) = prepare(alloc, &self.announcer, &self.speaker, &parts, announcements)
+        ) = prepare(alloc, &self.voice.announcer, &self.voice.speaker, &parts, announcements)
         else {
             return Err(ReaderError::Unannounced);
         };
         match self.participant.remove_reader(alloc, rank) {
             Ok(outcome) => {
                 announcements.append(&mut more)?; // there is room for them
-                self.announcer = announcer;
+                self.voice.announcer = announcer;
                 Ok(outcome)
             }
             Err(fault) => {

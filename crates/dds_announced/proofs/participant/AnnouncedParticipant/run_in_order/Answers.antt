@@ -57,5 +57,5 @@ returns-clause-announces g c =
       announced = c.in_ok-append.ensures.items
           ∙ ap (λ (l : List Announcement). l ++ c.in-Ok-write_for.more.items) c.in-Ok-write_for.ensures.same
           ∙ ap (λ (l : List Announcement). before ++ l) c.in-Ok-write_for.ensures.more
-          ∙ ap (λ (l : List Sending). before ++ announcements c.self.inside.speaker l) c.in-Ok.ensures.sends;
+          ∙ ap (λ (l : List Sending). before ++ announcements c.self.inside.voice.speaker l) c.in-Ok.ensures.sends;
     })
