@@ -1,5 +1,5 @@
 -- What the sockets of a participant announce, by what they receive (DDSI-RTPS 8.4.7, 8.5.3, 8.5.4).
-use Rattle.std.specs.Prelude.{◌≡◌, ℕ, List, [], ◌∷◌, ◌++◌, map, filter, flat_map, Bool, false, Option, None, Some, Result, Ok, Err, ⊤}
+use Rattle.std.specs.Prelude.{◌≡◌, ℕ, List, [], ◌∷◌, ◌++◌, map, filter, flat_map, false, Option, None, Some, Result, Ok, Err, ⊤}
 use Rattle.std.specs.declared.alloc.AllocError.{AllocError}
 use Rattle.std.specs.declared.vec.Vec.{Vec}
 use Rattle.std.specs.Net.Addr.{ipv4_octets}
@@ -23,7 +23,9 @@ use Rattle.rtps_announcer.specs.declared.hearing.Hearing.TheVariants.{Joins, Pas
 use Rattle.rtps_announcer.specs.declared.rules.Rules.{Rules}
 use Rattle.rtps_announcer.specs.declared.said.Destination.{Destination}
 use Rattle.rtps_announcer.specs.declared.said.Destination.TheVariants.{Everyone, Peer}
+use Rattle.dds_announced.specs.Announcing.{default_rules}
 use Rattle.dds_announced.specs.declared.announcement.Announcement.{Announcement}
+use Rattle.dds_announced.specs.declared.announcing.Announcing.{Announcing}
 use Rattle.dds_announced.specs.declared.speaker.Speaker.{Speaker}
 use Rattle.dds_announced.specs.declared.voice.Voice.{Voice}
 use Rattle.rtps_discovery.specs.declared.config.Config.{Config}
@@ -107,9 +109,24 @@ manner_of v bound = record {
 }
 
 -- the locator of the socket for a purpose: where it is bound
-pub record IsLocatorOf (binding : Binding) (purpose : Purpose) (l : Locator) : Type 0 where
-  pub address : l.address ≡ ipv4_octets binding.address
-  pub port : l.port ≡ port_of binding.domain binding.participant purpose
+abbrev pub locator_of : Binding → Purpose → Locator
+locator_of binding purpose = record {
+  port = port_of binding.domain binding.participant purpose;
+  address = ipv4_octets binding.address;
+}
+
+-- how sockets are announced that are bound so: by the rules that are meant, where they are bound, with
+-- this lease, to these addresses of everyone
+abbrev pub announcing_at : Binding → Duration → List Locator → Announcing
+announcing_at binding lease everyone = record {
+  rules = default_rules;
+  here = record {
+    discovery = locator_of binding Metatraffic;
+    user = locator_of binding UserData;
+    lease = lease;
+  };
+  everyone = everyone;
+}
 
 -- how sockets announce a participant of this configuration: where they are bound, with this lease, to
 -- these addresses of everyone
@@ -117,9 +134,8 @@ pub record IsMannerOf {L : Type 0} (sockets : Sockets L) (config : Config) (leas
     (everyone : List Locator) (m : Manner) : Type 0 where
   pub own : m.own ≡ config.own
   pub who : m.speaker.own ≡ config.own
-  pub discovery : IsLocatorOf sockets.binding Metatraffic m.speaker.here.discovery
-  pub user : IsLocatorOf sockets.binding UserData m.speaker.here.user
-  pub lease_is : m.speaker.here.lease ≡ lease
+  pub rules : m.rules ≡ default_rules
+  pub here : m.speaker.here ≡ (announcing_at sockets.binding lease everyone).here
   pub readers : m.speaker.readers.items ≡ own_readers config.own config.readers.items
   pub everyone_is : m.everyone ≡ everyone
   pub bound : m.bound ≡ ipv4_octets sockets.binding.address
@@ -160,3 +176,20 @@ unfoldable pub HasSpokenBy : Voice → List ℕ → ℕ → ℕ → Option (List
 HasSpokenBy v bound moment start None = ⊤
 HasSpokenBy v bound moment start (Some calls) =
     HasSpoken v bound moment (flat_map (traffic_of start) calls) (announced_in calls)
+
+-- ---- after the farewell
+
+-- Some of the calls were made before the farewell: all was announced that is to be by these, then the
+-- farewell, and nothing since.
+pub record IsSilent (speech : Speech) (calls : List Traffic) (announced : List (Locator × List ℕ))
+    : Type 0 where
+  pub before : List Traffic
+  pub since : List Traffic
+  pub parts : calls ≡ before ++ since
+  pub all : announced ≡ speech.announcements before ++ speech.farewell before
+
+-- the same of the calls of a link, if it tells them
+unfoldable pub IsSilentBy : Speech → ℕ → Option (List Call) → Type 0
+IsSilentBy speech start None = ⊤
+IsSilentBy speech start (Some calls) =
+    IsSilent speech (flat_map (traffic_of start) calls) (announced_in calls)

@@ -1,11 +1,13 @@
 //! Sockets that announce their participant.
 
-ghost use Rattle.std.specs.Prelude.{◌≡◌, IfOk, OnOk, false, option_map};
+ghost use Rattle.std.specs.Prelude.{◌≡◌, IfErr, IfOk, IsErr, None, OnErr, OnOk, false, option_map, true};
 ghost use Rattle.std.specs.Net.Addr.{ipv4_octets};
 ghost use Rattle.std.specs.Time.{instant_nanos};
 ghost use Rattle.rtps_records.specs.Speech.{HasLeft};
 ghost use Rattle.rtps_udp.specs.Calls.{announced_in, traffic_in};
-ghost use Rattle.rtps_announced.specs.Announced.{HasCalledNothing, IsMannerOf, IsSameSockets, manner_of, speech_of};
+ghost use Rattle.dds_announced.specs.Announcing.{fault_of};
+ghost use Rattle.dds_announced.specs.Voice.{BlamesReader, IsVoiceFault};
+ghost use Rattle.rtps_announced.specs.Announced.{HasCalledNothing, IsMannerOf, IsSameSockets, IsSilentBy, announcing_at, manner_of, speech_of};
 
 use crate::sending::{send_all, send_said};
 use dds_announced::{Announcing, Voice, VoiceFault};
@@ -37,10 +39,10 @@ pub struct AnnouncedSockets<L: Link> {
 }
 
 impl<L: Link> Model for AnnouncedSockets<L> {
-    ghost use Rattle.std.specs.Prelude.{◌≡◌, false};
+    ghost use Rattle.std.specs.Prelude.{◌≡◌, false, true};
     ghost use Rattle.std.specs.Net.Addr.{ipv4_octets};
     ghost use Rattle.std.specs.Time.{instant_nanos};
-    ghost use Rattle.rtps_announced.specs.Announced.{HasSpokenBy};
+    ghost use Rattle.rtps_announced.specs.Announced.{HasSpokenBy, IsSilentBy, manner_of, speech_of};
     ghost use Rattle.rtps_announced.specs.Standing.{AnnouncedView};
 
     ghost Value = { AnnouncedView L };
@@ -52,10 +54,14 @@ impl<L: Link> Model for AnnouncedSockets<L> {
       left = s.left;
     } };
 
-    // Until the farewell all that was received is heard, and what is said by it is announced.
-    ghost invariant = { λ s. s.left ≡ false
+    // Until the farewell all that was received is heard, and what is said by it is announced. After
+    // it nothing is announced.
+    ghost invariant = { λ s. (s.left ≡ false
         → HasSpokenBy s.voice (ipv4_octets s.sockets.binding.address) s.moment
-        (instant_nanos s.sockets.ports.start) (L.calls s.sockets.ports.link) };
+        (instant_nanos s.sockets.ports.start) (L.calls s.sockets.ports.link))
+        × (s.left ≡ true
+        → IsSilentBy (speech_of (manner_of s.voice (ipv4_octets s.sockets.binding.address)))
+        (instant_nanos s.sockets.ports.start) (L.calls s.sockets.ports.link)) };
 }
 
 impl<L: Link> AnnouncedSockets<L> {
@@ -63,9 +69,11 @@ impl<L: Link> AnnouncedSockets<L> {
     /// readers from now on: where the sockets are bound, with this lease, to these addresses of
     /// everyone, at most 64, by the numbers of [`Rules::DEFAULT`].
     ///
-    /// The errors are those of [`Voice::new`]: `Announcing` where the lease isn't above a second,
-    /// where the sockets are bound to 0.0.0.0, which is no address that a peer can send to, or
-    /// where there are more addresses; `TooLong` and `NoMemory`.
+    /// The errors, of which the first that comes is returned: [`VoiceFault::Announcing`] exactly
+    /// where the lease isn't above a second, where the sockets are bound to 0.0.0.0, which is no
+    /// address that a peer can send to, or where there are more addresses;
+    /// [`VoiceFault::TooLong`] where the record of a reader would have more than 60,000 octets; and
+    /// [`VoiceFault::NoMemory`]. With an error the sockets are closed.
     pub fn new(
         alloc: Global,
         sockets: Sockets<L>,
@@ -75,6 +83,11 @@ impl<L: Link> AnnouncedSockets<L> {
     ) -> Result<AnnouncedSockets<L>, VoiceFault>
         requires unused { HasCalledNothing (instant_nanos sockets.ports.start)
             (L.calls sockets.ports.link) }
+        ensures begins { OnOk result
+            (fault_of (announcing_at sockets.binding lease everyone) ≡ None) }
+        ensures fault { IfErr result
+            (IsVoiceFault (fault_of (announcing_at sockets.binding lease everyone))) }
+        ensures too_long { IfErr result (BlamesReader config.now.own config.now.readers.items) }
         ensures sockets { IfOk result (λ s. s.sockets ≡ sockets) }
         ensures left { IfOk result (λ s. s.left ≡ false) }
         ensures manner { IfOk result (λ s. IsMannerOf sockets config.now lease everyone
@@ -103,8 +116,11 @@ impl<L: Link> AnnouncedSockets<L> {
     /// lease ends. From then on nothing is heard and announced any more.
     ///
     /// `AllocError` where memory is refused, now or before, or where the farewell was said before:
-    /// then nothing is said.
+    /// then nothing is said, and nothing has changed.
     pub fn farewell(&mut self) -> Result<(), AllocError>
+        ensures silent { OnOk result (self.new.left ≡ true) }
+        ensures again { self.old.left ≡ true → IsErr result }
+        ensures still { OnErr result (self.new ≡ self.old) }
         ensures left { OnOk result (HasLeft
             (speech_of (manner_of self.old.voice (ipv4_octets self.old.sockets.binding.address)))
             (traffic_in (instant_nanos self.old.sockets.ports.start)
@@ -124,6 +140,16 @@ impl<L: Link> AnnouncedSockets<L> {
         self.left = true;
         send_all(&mut self.sockets, self.voice.everyone(), &announcements);
         Ok(())
+    }
+
+    /// Whether the farewell was said. Since then nothing was announced, whatever was received.
+    pub fn has_left(&self) -> bool
+        ensures left { result ≡ self.now.left }
+        ensures silent { result ≡ true → IsSilentBy
+            (speech_of (manner_of self.now.voice (ipv4_octets self.now.sockets.binding.address)))
+            (instant_nanos self.now.sockets.ports.start) (L.calls self.now.sockets.ports.link) }
+    {
+        self.left
     }
 }
 

@@ -1,5 +1,5 @@
 use Rattle.rtps_udp.specs.Addresses.{is_answered}
-use Rattle.std.proofs.Common.{◌≡◌, filter, ℕ, ◌∙◌, List, ap, refl, subst, sym, take}
+use Rattle.std.proofs.Common.{◌≡◌, filter, ℕ, List, ap, refl, subst, sym}
 use Rattle.std.specs.Net.Addr.{ipv4_octets}
 use Rattle.std.specs.Time.{instant_nanos}
 use Rattle.rtps_types.specs.declared.locator.Locator.{Locator}

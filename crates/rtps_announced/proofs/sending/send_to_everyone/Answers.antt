@@ -1,7 +1,7 @@
-use Rattle.std.proofs.Common.{◌≡◌, ℕ, ◌∙◌, List, ap, refl, subst, take}
+use Rattle.std.proofs.Common.{ℕ, ◌∙◌, List, ap, refl, subst}
 use Rattle.std.specs.Time.{instant_nanos}
 use Rattle.rtps_types.specs.declared.locator.Locator.{Locator}
-use Rattle.rtps_announced.specs.Announced.{AnnouncesMore, to_each}
+use Rattle.rtps_announced.specs.Announced.{AnnouncesMore}
 use Rattle.rtps_announced.proofs.Sent.{each_more, more_then, none_more, one_more}
 use Rattle.rtps_announced.proofs.sending.send_to_everyone.Goals as goal
 

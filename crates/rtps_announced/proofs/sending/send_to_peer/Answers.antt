@@ -1,9 +1,9 @@
-use Rattle.std.proofs.Common.{◌≡◌, ℕ, ◌∷◌, [], ◌∙◌, List, ap, refl, filter, subst, take}
+use Rattle.std.proofs.Common.{◌≡◌, ℕ, ◌∙◌, List, ap, refl, subst}
 use Rattle.std.specs.Net.Addr.{ipv4_octets}
 use Rattle.std.specs.Time.{instant_nanos}
 use Rattle.rtps_types.specs.declared.locator.Locator.{Locator}
 use Rattle.rtps_udp.specs.Addresses.{is_answered}
-use Rattle.rtps_announced.specs.Announced.{AnnouncesMore, to_each}
+use Rattle.rtps_announced.specs.Announced.{AnnouncesMore}
 use Rattle.rtps_announced.proofs.Sent.{more_then, none_more, place_more, some_more}
 use Rattle.rtps_announced.proofs.sending.send_to_peer.Goals as goal
 
