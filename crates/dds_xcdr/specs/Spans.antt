@@ -1,10 +1,11 @@
 -- What a walk over octets passes: something that stands where it is, whatever its value.
-use Rattle.std.specs.Prelude.{◌≡◌, ◌≤◌, ◌⊎◌, ℕ, ◌+◌, List, [], ◌∷◌, ◌++◌, length, drop, Bool, if◌then◌else◌, Result, Ok, OnOk}
+use Rattle.std.specs.Prelude.{◌≡◌, ◌≢◌, ◌≤◌, ◌⊎◌, ℕ, ◌+◌, List, [], ◌∷◌, ◌++◌, length, drop, Bool, if◌then◌else◌, Result, Ok, Err, OnOk}
 use Rattle.rtps_types.specs.declared.field.Endian.{Endian}
 use Rattle.rtps_cdr.specs.Cdr.{AreAll, Free, IsText}
 use Rattle.rtps_cdr.specs.Reading.{Cursor, placed}
 use Rattle.dds_xcdr.specs.declared.version.Version.{Version}
 use Rattle.dds_xcdr.specs.declared.fault.XcdrFault.{XcdrFault}
+use Rattle.dds_xcdr.specs.declared.fault.XcdrFault.TheVariants.{Encapsulation}
 use Rattle.dds_xcdr.specs.Xtype.{Xtype, Fields, ValueOf, ValuesOf}
 use Rattle.dds_xcdr.specs.Xcdr.{AreFields, IsCounted, IsWithin, IsXcdr}
 
@@ -16,11 +17,12 @@ pub record Spans (is : ℕ → List ℕ → Type 0) (c after : Cursor) : Type 0 
   pub stands : is c.position front
   pub behind : after ≡ placed c (c.position + length front)
 
--- such octets are passed exactly if they are there
+-- such octets are passed exactly if they are there; the encapsulation is known then
 pub record Passes (is : ℕ → List ℕ → Type 0) (c after : Cursor)
     (answer : Result (Unit {0}) XcdrFault) : Type 0 where
   pub found : OnOk answer (Spans is c after)
   pub only : (end : Cursor) → Spans is c end → (answer ≡ Ok tt) × (after ≡ end)
+  pub known : answer ≢ Err Encapsulation
 
 -- n octets are passed exactly if they are there
 pub record Skips (n : ℕ) (c after : Cursor) (answer : Result (Unit {0}) XcdrFault) : Type 0 where
@@ -28,6 +30,7 @@ pub record Skips (n : ℕ) (c after : Cursor) (answer : Result (Unit {0}) XcdrFa
       ((c.position + n ≤ length c.octets) × (after ≡ placed c (c.position + n)))
   pub only : c.position + n ≤ length c.octets
       → (answer ≡ Ok tt) × (after ≡ placed c (c.position + n))
+  pub known : answer ≢ Err Encapsulation
 
 -- some value of a type
 abbrev pub IsValue : Version → Xtype → Endian → ℕ → List ℕ → Type 0

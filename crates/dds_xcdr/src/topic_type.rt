@@ -1,6 +1,6 @@
 //! The type of a topic.
 
-ghost use Rattle.std.specs.Prelude.{◌≡◌, ◌<◌, length};
+ghost use Rattle.std.specs.Prelude.{◌↔◌, ◌≡◌, ◌<◌, length};
 
 use crate::walk::skip;
 use crate::{Form, TypeFault, TypeId, Types, XcdrFault};
@@ -58,7 +58,7 @@ impl TopicType {
             × ((form_of kind ≡ Some f) × BeginsWith (topic_type self.now) f body.now n)) }
         ensures only { (f : Form) (n : ℕ) → form_of kind ≡ Some f
             → BeginsWith (topic_type self.now) f body.now n → result ≡ Ok n }
-        ensures other { form_of kind ≡ None → result ≡ Err Encapsulation }
+        ensures other { (form_of kind ≡ None) ↔ (result ≡ Err Encapsulation) }
     {
         let Some(form) = Form::of_kind(kind) else {
             return Err(XcdrFault::Encapsulation);

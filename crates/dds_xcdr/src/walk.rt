@@ -3,6 +3,7 @@
 
 ghost use Rattle.std.specs.Prelude.{◌≡◌, ◌≤◌, ◌<◌, ◌+◌, ◌*◌, ◌^◌, ◌↔◌, ℕ, ◌≢◌, IsTrue, IfSome, OnOk, OnErr, List, length};
 ghost use Rattle.std.specs.List.{All};
+ghost use Rattle.dds_xcdr.specs.declared.fault.XcdrFault.TheVariants.{Encapsulation};
 ghost use Rattle.dds_xcdr.specs.Spans.{AreCountedItems, AreItems, AreMembers, IsBoundedText, IsSize, IsTruth, IsValue, Passes, Skips};
 ghost use Rattle.dds_xcdr.specs.Types.{fields_in, meant, plain, type_in, types_of};
 ghost use Rattle.dds_xcdr.specs.Xcdr.{IsWithin, alignment, has_header};
@@ -101,6 +102,7 @@ fn skip_primitive(
 fn ends_at(start: usize, count: u32, reader: &CdrReader<'_>) -> Result<(), XcdrFault>
     ensures ok { OnOk result (reader.now.position ≡ start + count) }
     ensures err { OnErr result (reader.now.position ≢ start + count) }
+    ensures known { result ≢ Err Encapsulation }
 {
     let end = reader.position();
     if start <= end && end - start == count as usize {

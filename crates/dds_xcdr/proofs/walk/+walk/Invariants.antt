@@ -24,10 +24,14 @@ decreases-skip_sequence l = 4 * l.item.0 + 6
 
 abbrev pub invariant-skip_items-items : goal.invariant-skip_items-items
 invariant-skip_items-items l =
-    IsLeft (AreItems l.version (type_in (types_of l.types) l.item) (l.count - l._i) l.initial.reader.endian)
-    (AreItems l.version (type_in (types_of l.types) l.item) l.count l.initial.reader.endian) l.reader l.initial.reader
+    IsLeft (AreItems l.version (type_in (types_of l.types) l.item) (l.count - l._i)
+    l.initial.reader.endian)
+    (AreItems l.version (type_in (types_of l.types) l.item) l.count l.initial.reader.endian)
+    l.reader l.initial.reader
 
 abbrev pub invariant-skip_members-members : goal.invariant-skip_members-members
 invariant-skip_members-members l =
-    IsLeft (Members l.version (types_of l.types) (drop l.member-index l.members) l.initial.reader.endian)
-    (Members l.version (types_of l.types) l.members l.initial.reader.endian) l.reader l.initial.reader
+    IsLeft (Members l.version (types_of l.types) (drop l.member-index l.members)
+    l.initial.reader.endian)
+    (Members l.version (types_of l.types) l.members l.initial.reader.endian) l.reader
+    l.initial.reader
