@@ -2,7 +2,7 @@
 
 mod peer;
 
-use crate::{TopicType, TypeFault, TypeId, Types, XcdrFault};
+use crate::{Dimensions, Member, Primitive, TopicType, TypeFault, TypeId, Types, XcdrFault};
 use peer::{EMP, ENUM_SEQ, K1, K3, NUM, color, dimensions, emp, enum_seq, k1, k3, num};
 use rtps_cdr::CdrFault;
 use std::alloc::Global;
@@ -156,5 +156,37 @@ fn counts_without_items_are_short(rt: HostRuntime) -> Result<(), Fail> {
     for kind in [0, 1, 6, 7] {
         assert_eq!(rt; topic.look_through(kind, &body), Err(SHORT));
     }
+    Ok(())
+}
+
+/// The examples of [`Types`] and of [`TopicType`], and a body that was written by hand: a name of
+/// one letter with its NUL, two octets of padding, and three numbers.
+#[test]
+fn the_examples_run(rt: HostRuntime) -> Result<(), Fail> {
+    let alloc = rt.alloc();
+    let mut types = Types::new(alloc);
+    let frame = types.text(8)?;
+    let double = types.primitive(Primitive::Double)?;
+    let at = types.array(double, Dimensions::new(vec![in alloc; 3]?)?)?;
+    let members = vec![in alloc;
+        Member {
+            name: String::from_str(alloc, "frame")?,
+            of: frame,
+            is_key: true
+        },
+        Member {
+            name: String::from_str(alloc, "at")?,
+            of: at,
+            is_key: false
+        },
+    ]?;
+    let pose = types.structure(members)?;
+    let topic = TopicType::new(types, pose)?;
+    let body = hex::decode(
+        alloc,
+        "0200000061000000000000000000f03f00000000000000400000000000000840",
+    )?;
+    let used = topic.look_through(7, body.as_slice())?;
+    assert_eq!(rt; used, 32);
     Ok(())
 }

@@ -11,11 +11,8 @@ use rtps_cdr::CdrReader;
 /// # Example
 ///
 /// ```
-/// let mut types = Types::new(alloc);
-/// let double = types.primitive(Primitive::Double)?;
-/// let at = types.array(double, Dimensions::new(vec![in alloc; 3]?)?)?;
-/// let topic = TopicType::new(types, at)?;
-/// let used = topic.look_through(7, body)?; // 24 octets, of kind CDR2_LE
+/// let topic = TopicType::new(types, pose)?; // As in the example of `Types`.
+/// let used = topic.look_through(7, body.as_slice())?; // A body of kind CDR2_LE.
 /// ```
 #[derive(Drop)]
 pub struct TopicType {
@@ -25,7 +22,7 @@ pub struct TopicType {
 }
 
 impl TopicType {
-    ghost use Rattle.std.specs.Prelude.{◌≤◌, ℕ, None, Some, Ok, Err, IfOk, IfErr, is_ok, true, List};
+    ghost use Rattle.std.specs.Prelude.{◌≤◌, ℕ, None, Some, Ok, Err, IfOk, IfErr};
     ghost use Rattle.dds_xcdr.specs.declared.fault.TypeFault.TheVariants.{Unknown};
     ghost use Rattle.dds_xcdr.specs.declared.fault.XcdrFault.TheVariants.{Encapsulation};
     ghost use Rattle.dds_xcdr.specs.declared.form.Form.{Form};
@@ -52,7 +49,8 @@ impl TopicType {
     /// `Encapsulation` if the kind is none that [`Form::of_kind`] knows. Otherwise `Cdr` if a
     /// number, truth value or string can't be read, `TooLong` if a string or sequence is longer
     /// than its bound, and `BadHeader` if the header of a collection counts other octets than it
-    /// has. No memory is taken, and the steps are at most 33 for each octet that is passed.
+    /// has. No memory is taken. Each octet is part of at most 32 values, one within the other, and
+    /// each value has an octet, so a walk has at most 32 steps for each octet, and 32 more.
     pub fn look_through(&self, kind: u16, body: &[u8]) -> Result<usize, XcdrFault>
         ensures found { IfOk result (λ n. (f : Form)
             × ((form_of kind ≡ Some f) × BeginsWith (topic_type self.now) f body.now n)) }

@@ -1,7 +1,7 @@
-//! A walk over the octets of a value. A recursion goes from a type to those that it names, which
-//! stand before it, so it has at most as many frames as a type has depth.
+//! A walk over the octets of a value. The recursion goes from a type to those that it names, which
+//! stand before it: at most 32 types deep, and four calls for each.
 
-ghost use Rattle.std.specs.Prelude.{◌≡◌, ◌≤◌, ◌<◌, ◌+◌, ◌*◌, ◌^◌, ◌↔◌, ℕ, ◌≢◌, IsTrue, IfSome, OnOk, OnErr, List, length};
+ghost use Rattle.std.specs.Prelude.{◌≡◌, ◌<◌, ◌+◌, ◌↔◌, ◌≢◌, IsTrue, IfSome, OnOk, OnErr, List, length};
 ghost use Rattle.std.specs.List.{All};
 ghost use Rattle.dds_xcdr.specs.declared.fault.XcdrFault.TheVariants.{Encapsulation};
 ghost use Rattle.dds_xcdr.specs.Spans.{AreCountedItems, AreItems, AreMembers, IsBoundedText, IsSize, IsTruth, IsValue, Passes, Skips};
