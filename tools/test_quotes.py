@@ -79,7 +79,10 @@ def is_quoted(block, source):
 def has(name, paths):
     """Whether one of these files declares a name, the last word of a path of Rust."""
     word = re.escape(name.rpartition(":")[2])
-    declares = {".rt": rf"\b(?:fn|struct|enum|trait|type|const|mod) {word}\b", ".antt": rf"(?m)^(?:\w+ )*{word}\b"}
+    declares = {
+        ".rt": rf"\b(?:fn|struct|enum|trait|type|const|mod) {word}\b",
+        ".antt": rf"(?m)^(?:  (?=pub ))?(?:\w+ )*{word}\b",
+    }
     return any(re.search(declares[Path(path).suffix], text_of(path[1:])) for path in paths)
 
 

@@ -1,0 +1,10 @@
+pub mod Counts
+pub mod Described
+pub mod Spans
+pub mod Numbers
+pub mod Texts
+pub mod Alike
+pub mod Headers
+pub mod Items
+pub mod Begins
+pub mod Plain

@@ -1,0 +1,9 @@
+pub mod Xtype
+pub mod Xcdr
+pub mod Types
+pub mod Spans
+pub mod Topic
+pub mod TopicType
+pub mod Product
+pub mod Dimensions
+pub mod PlainCdr
