@@ -2,11 +2,11 @@
 //! samples in order, its statuses, and the datagrams that answer. All that an application needs is
 //! named here; each contract is that of the crate below which has the type.
 //!
-//! It receives: there is no writer, and nothing is announced. The application has the sockets, the
-//! clock and the threads, and passes on what comes.
+//! It receives: there is no writer. The application has the sockets, the clock and the threads, and
+//! passes on what comes.
 //!
 //! A participant with one reader of shapes, which are a type that is there already
-//! ([`Structs`] makes one of a struct of your own):
+//! ([`Structs`] makes one of a struct of your own). No other participant may have its prefix:
 //!
 //! ```
 //! let squares = Subscription::topic(alloc, EntityId([0, 0, 1, 7]), "Square", "ShapeType")?
@@ -15,16 +15,40 @@
 //! let mut cache = squares.cache(alloc);
 //! let mut config = Config::new(alloc, GuidPrefix([0x0b; 12]));
 //! config.add_reader(squares.reader)?;
+//! ```
+//!
+//! Its sockets, at an address of this machine in domain 0, and how it is announced: to the group of
+//! the domain, so that peers of any vendor find it, and with a lease of ten seconds:
+//!
+//! ```
+//! let sockets = Sockets::bind_first(&rt, &rt, alloc, 0, Ipv4Addr::new(192, 0, 2, 7))?;
+//! let everyone = Locators::one(alloc, discovery_group(0));
+//! let lease = Duration {
+//!     seconds: 10,
+//!     fraction: 0,
+//! };
+//! let mut network = AnnouncedSockets::new(alloc, sockets, &config, lease, everyone)?;
 //! let mut participant = Participant::new(alloc, config, Shapes)?;
 //! ```
 //!
 //! Its reader is matched with the writers of its topic and type that others announce, as soon as
 //! their announcements come as datagrams, or with a writer that is named from the start
-//! ([`Config::add_fixed`]).
+//! ([`Config::add_fixed`]). What comes is a batch of datagrams, each with the moment in milliseconds
+//! at which it came. It is processed on up to 64 threads, and the answers are sent:
 //!
-//! A batch of datagrams, each with the moment in milliseconds at which it came, on up to 64
-//! threads. The result has for each rank the notices of its reader, which go into the cache, and
-//! the answers, each with the addresses that it is sent to:
+//! ```
+//! let moment = network.wait()?;
+//! batch.receive(&mut network, moment, 256)?;
+//! let datagrams = batch.datagrams(alloc)?;
+//! participant.run_in_order(&rt, alloc, &workers, &datagrams, &mut given)?;
+//! send_answers(alloc, &mut network, &given)?;
+//! ```
+//!
+//! and in the end `network.farewell()?` has others forget it at once. [`AnnouncedParticipant`] is
+//! one whose readers come and go, and are announced by then.
+//!
+//! Where the application has sockets of its own, a batch gives for each rank the notices of its
+//! reader, which go into the cache, and the answers, each with the addresses that it is sent to:
 //!
 //! ```
 //! let outcome = participant.run_batch(&rt, alloc, &NoGate, &datagrams, 4)?;
@@ -65,7 +89,7 @@
 //! statuses stay as they were. A cache can be asked again.
 //!
 //! **Sockets.** [`Sockets`] are those of a domain on this machine, on loopback or by a [`Binding`]
-//! at another address. Their `receive_batch` waits for datagrams and fills a [`Batch`], and
+//! at another address; nothing is announced by these. Their `receive_batch` waits for datagrams and fills a [`Batch`], and
 //! `send_answer` sends an answer to a locator. The module `live` of `crates/examples` is an
 //! application on sockets, and `cache` one over a record file, which [`Records`] reads.
 #![tactic(auto)]
@@ -74,6 +98,14 @@ mod subscription;
 #[cfg(test)]
 mod tests;
 
+pub use dds_announced::AnnounceFault;
+pub use dds_announced::AnnouncedError;
+pub use dds_announced::AnnouncedParticipant;
+pub use dds_announced::Announcement;
+pub use dds_announced::Announcing;
+pub use dds_announced::ReaderError;
+pub use dds_announced::VoiceFault;
+pub use dds_announced::discovery_group;
 pub use dds_cache::Answers;
 pub use dds_cache::Condition;
 pub use dds_cache::Content;
@@ -93,6 +125,7 @@ pub use dds_outlet::Sent;
 pub use dds_outlet::StatusBoard;
 pub use dds_outlet::StatusReader;
 pub use dds_outlet::Told;
+pub use dds_outlet::Unseen;
 pub use dds_outlet::outlet;
 pub use dds_participant::AttachFault;
 pub use dds_participant::Participant;
@@ -125,6 +158,10 @@ pub use dds_topic::Shape;
 pub use dds_topic::Shapes;
 pub use dds_topic::TextCatalog;
 pub use dds_topic::Unread;
+pub use rtps_announced::AnnouncedSockets;
+pub use rtps_announcement::Presence;
+pub use rtps_announcer::Destination;
+pub use rtps_announcer::Rules;
 pub use rtps_discovery::Config;
 pub use rtps_discovery::ConfigFault;
 pub use rtps_discovery::Discovery;

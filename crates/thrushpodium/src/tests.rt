@@ -2,7 +2,11 @@
 
 use crate::*;
 use std::alloc::{AllocError, Global};
+use std::net::Ipv4Addr;
 use std::test::Fail;
+
+/// A domain in which nobody else listens.
+const DOMAIN: u16 = 96;
 
 /// The writer of the datagrams.
 const WRITER: Guid = Guid {
@@ -165,5 +169,59 @@ fn one_thread_takes_a_datagram_at_a_time(rt: HostRuntime) -> Result<(), Fail> {
     assert!(rt; engine.status(0).is_none());
     assert!(rt; engine.status(1).is_some());
     assert!(rt; engine.discovery().writers().next().is_none());
+    Ok(())
+}
+
+/// A participant announces itself to a peer at its first moment, answers what the peer sends, and says
+/// farewell. The peer is two sockets of the same domain.
+#[test]
+fn a_participant_is_announced(rt: HostRuntime) -> Result<(), Fail> {
+    let alloc = rt.alloc();
+    let mut peer = Sockets::bind_first(&rt, &rt, alloc, DOMAIN, Ipv4Addr::LOCALHOST)?;
+    let everyone = Locators::one(alloc, peer.locator(Purpose::Metatraffic));
+    let mut config = Config::new(alloc, GuidPrefix([0x0b; 12]));
+    config.add_reader(squares(alloc)?.reliable().reader)?;
+    config.add_fixed(
+        0,
+        WRITER,
+        Locators::one(alloc, peer.locator(Purpose::UserData)),
+    )?;
+    let sockets = Sockets::bind_first(&rt, &rt, alloc, DOMAIN, Ipv4Addr::LOCALHOST)?;
+    let user = sockets.locator(Purpose::UserData);
+    let lease = Duration {
+        seconds: 10,
+        fraction: 0,
+    };
+    let mut network = AnnouncedSockets::new(alloc, sockets, &config, lease, everyone)?;
+    let mut participant = Participant::new(alloc, config, Shapes)?;
+    network.wait()?;
+    let mut room = [0; 2_000];
+    peer.wait()?;
+    assert_eq!(rt; peer.receive(&mut room)?, Some(164));
+    peer.announce(user, DATA)?;
+    peer.announce(user, HEARTBEAT)?;
+    let workers = Workers {
+        count: 2,
+        gate: &NoGate,
+    };
+    let mut batch = Batch::new(alloc)?;
+    let mut given = BatchOutput::new(alloc);
+    let moment = network.wait()?;
+    batch.receive(&mut network, moment, 256)?;
+    let datagrams = batch.datagrams(alloc)?;
+    assert!(rt; is_batch(&datagrams));
+    participant.run_in_order(&rt, alloc, &workers, &datagrams, &mut given)?;
+    send_answers(alloc, &mut network, &given)?;
+    let samples = participant.status(0).map(|status| status.samples);
+    assert_eq!(rt; samples, Some(1));
+    // An ACKNACK: it asks for number 2.
+    peer.wait()?;
+    let answer = peer.receive(&mut room)?;
+    assert!(rt; matches!(answer, Some(_)));
+    assert_eq!(rt; room[36], 6);
+    network.farewell()?;
+    assert!(rt; network.has_left());
+    peer.wait()?;
+    assert!(rt; matches!(peer.receive(&mut room)?, Some(_)));
     Ok(())
 }
