@@ -208,7 +208,13 @@ impl<C: Catalog> AnnouncedParticipant<C> {
         let Ready {
             announcer,
             mut more,
-        } = match prepare_reader(alloc, &self.voice.announcer, speaker, &reader, announcements) {
+        } = match prepare_reader(
+            alloc,
+            &self.voice.announcer,
+            speaker,
+            &reader,
+            announcements,
+        ) {
             Ok(ready) => ready,
             Err(fault) => return Err(fault),
         };
@@ -282,7 +288,13 @@ impl<C: Catalog> AnnouncedParticipant<C> {
                 announcer,
                 mut more,
             },
-        ) = prepare(alloc, &self.voice.announcer, &self.voice.speaker, &parts, announcements)
+        ) = prepare(
+            alloc,
+            &self.voice.announcer,
+            &self.voice.speaker,
+            &parts,
+            announcements,
+        )
         else {
             return Err(ReaderError::Unannounced);
         };

@@ -1,17 +1,21 @@
 -- What a participant that announces itself writes, calls and announces; and what is refused before.
-use Rattle.std.proofs.Common.{◌≡◌, ◌≢◌, ◌⊎◌, ◌∙◌, ℕ, List, Option, None, Some, Result, Ok, Err, IfErr, ap, inl, inr, refl, subst, sym}
-use Rattle.std.specs.Prelude.{IsErrAnd}
+use Rattle.std.proofs.Common.{◌≡◌, ◌≢◌, ◌⊎◌, ◌∙◌, ℕ, Bool, true, false, List, Option, None, Some, Result, Ok, Err, IfErr, ap, inl, inr, refl, subst, sym}
+use Rattle.std.specs.Prelude.{IsErrAnd, MatchBool}
+use Rattle.std.specs.Str.{bytes_eq}
 use Rattle.std.proofs.KnownBytes.{Keeps-refl}
 use Rattle.std.specs.declared.net.ipv4_addr.Ipv4Addr.{Ipv4Addr}
+use Rattle.rtps_types.specs.declared.identity.GuidPrefix.{GuidPrefix}
 use Rattle.rtps_discovery.specs.declared.config.Config.{Config}
+use Rattle.rtps_files.specs.Prefixes.{WritesPrefix}
 use Rattle.rtps_records.specs.Speech.{HasLeft}
 use Rattle.rtps_records.specs.declared.fault.RunFault.{RunFault}
 use Rattle.rtps_records.specs.declared.fault.RunFault.TheVariants.{CannotRead, NotRecordFile, CutRecord, RecordTooLong, TooManyRecords, CannotWrite, NoMemory}
 use Rattle.rtps_records.specs.Traffic.{Traffic}
 use Rattle.rtps_text.specs.Listened.{Limits, LiveRun, limits_of}
-use Rattle.rtps_listen.specs.Appearing.{Appears, AppearsAll, IsAnnouncedCause, IsAnnouncedConfigOf, IsAppearCause, IsReachFault, IsSilent, RefusesReach}
+use Rattle.rtps_listen.specs.Appearing.{Appears, AppearsAll, AnyTime, IsAbsent, IsAnnouncedCause, IsAnnouncedConfigOf, IsMadeAt, IsAppearCause, IsReachFault, IsSilent, RefusesReach}
 use Rattle.rtps_listen.specs.Configs.{IsCause, Refuses}
 use Rattle.rtps_listen.specs.Domain.{IsBefore, IsLive, IsQuiet, ListensBy, live_run_of}
+use Rattle.rtps_listen.specs.Line.{own_text}
 use Rattle.rtps_listen.specs.Networks.{Networks}
 use Rattle.rtps_listen.specs.Printed.{Prints}
 use Rattle.rtps_listen.specs.Program.{Does}
@@ -65,17 +69,35 @@ config_cause o OnlyAnnounced h = absurd h
 config_cause o TooLong h = absurd h
 config_cause o (NoPorts first last) h = absurd h
 
-ports_cause : (o : Options) (domain : ℕ) (fault : ListenFault) → domain ≡ o.domain → IsReachFault domain fault → IsAppearCause o fault
-ports_cause o domain Socket same h = tt
-ports_cause o domain TooLong same h = tt
-ports_cause o domain (NoPorts first last) same h = subst (λ d. IsReachFault d (NoPorts first last)) same h
-ports_cause o domain (Run fault) same h = tt
-ports_cause o domain BadWriter same h = absurd h
-ports_cause o domain BadAddress same h = absurd h
-ports_cause o domain BadPeers same h = absurd h
-ports_cause o domain NoText same h = absurd h
-ports_cause o domain BadPrefix same h = absurd h
-ports_cause o domain OnlyAnnounced same h = absurd h
+-- at whatever time
+own_any : (times : ℕ → Type 0) (o : Options) (address : Ipv4Addr) (own : GuidPrefix) (b : Bool)
+    → MatchBool b (IsMadeAt times address own) (WritesPrefix o.own.now own)
+    → MatchBool b (IsMadeAt AnyTime address own) (WritesPrefix o.own.now own)
+own_any times o address own true h = (h.0, tt, h.2)
+own_any times o address own false h = h
+
+config_any : (times : ℕ → Type 0) (o : Options) (address : Ipv4Addr) (config : Config) → IsAnnouncedConfigOf times o address config
+    → IsAnnouncedConfigOf AnyTime o address config
+config_any times o address config h =
+    (h.0, h.1, own_any times o address h.0 (bytes_eq o.own.now own_text) h.2, h.3, h.4)
+
+absent : (times : ℕ → Type 0) (o : Options) (reach : Reach) (config : Config) (fault : ListenFault) → IsReachOf o reach
+    → IsAnnouncedConfigOf times o reach.address config → IsReachFault reach.domain config fault → IsAbsent o fault
+absent times o reach config fault is_reach is_config h =
+    (reach.address, config, config_any times o reach.address config is_config, subst (λ d. IsReachFault d config fault) is_reach.domain h)
+
+ports_cause : (times : ℕ → Type 0) (o : Options) (reach : Reach) (config : Config) (fault : ListenFault) → IsReachOf o reach
+    → IsAnnouncedConfigOf times o reach.address config → IsReachFault reach.domain config fault → IsAppearCause o fault
+ports_cause times o reach config Socket is_reach is_config h = tt
+ports_cause times o reach config TooLong is_reach is_config h = absent times o reach config TooLong is_reach is_config h
+ports_cause times o reach config (NoPorts first last) is_reach is_config h = absent times o reach config (NoPorts first last) is_reach is_config h
+ports_cause times o reach config (Run fault) is_reach is_config h = tt
+ports_cause times o reach config BadWriter is_reach is_config h = absurd h
+ports_cause times o reach config BadAddress is_reach is_config h = absurd h
+ports_cause times o reach config BadPeers is_reach is_config h = absurd h
+ports_cause times o reach config NoText is_reach is_config h = absurd h
+ports_cause times o reach config BadPrefix is_reach is_config h = absurd h
+ports_cause times o reach config OnlyAnnounced is_reach is_config h = absurd h
 
 run_cause : (o : Options) (s : Result (Unit {0}) ListenFault) → IfErr s IsLive → IfErr s (IsAppearCause o)
 run_cause o (Ok u) h = tt
@@ -149,13 +171,14 @@ prefix_refused o t reach s fault h is_reach is cause =
     (refuses_none o t s h, reach_taken o reach s is_reach, passed (IsAnnouncedCause o) _ s fault (is_err s fault is) cause (config_cause o))
 
 -- of its ports
-pub ports_refused : {T : Type 0} (o : Options) (t : T) (reach : Reach) (s : Result (Unit {0}) ListenFault) (fault : ListenFault)
-    → Refuses {T = T} o (Ok t) → IsReachOf o reach → IsErrAnd s (λ e. e ≡ fault) → IsReachFault reach.domain fault → RefusesFirst (Announce o) s
+pub ports_refused : {T : Type 0} (times : ℕ → Type 0) (o : Options) (t : T) (reach : Reach) (config : Config) (s : Result (Unit {0}) ListenFault) (fault : ListenFault)
+    → Refuses {T = T} o (Ok t) → IsReachOf o reach → IsAnnouncedConfigOf times o reach.address config → IsErrAnd s (λ e. e ≡ fault)
+    → IsReachFault reach.domain config fault → RefusesFirst (Announce o) s
 unfolding RefusesFirst
-ports_refused o t reach s fault h is_reach is cause = (
+ports_refused times o t reach config s fault h is_reach is_config is cause = (
   refuses_none o t s h,
   reach_taken o reach s is_reach,
-  passed (IsReachFault reach.domain) _ s fault (is_err s fault is) cause (λ e. ports_cause o reach.domain e is_reach.domain),
+  passed (IsReachFault reach.domain config) _ s fault (is_err s fault is) cause (λ e. ports_cause times o reach config e is_reach is_config),
 )
 
 -- where nothing is refused, the run alone can fail
@@ -194,17 +217,17 @@ config_before o TooLong h = tt
 config_before o (NoPorts first last) h = tt
 config_before o Socket h = tt
 
-ports_before : (domain : ℕ) (fault : ListenFault) → IsReachFault domain fault → IsBefore fault
-ports_before domain (Run fault) h = h
-ports_before domain BadAddress h = tt
-ports_before domain BadPeers h = tt
-ports_before domain NoText h = tt
-ports_before domain BadPrefix h = tt
-ports_before domain BadWriter h = tt
-ports_before domain OnlyAnnounced h = tt
-ports_before domain TooLong h = tt
-ports_before domain (NoPorts first last) h = tt
-ports_before domain Socket h = tt
+ports_before : (domain : ℕ) (config : Config) (fault : ListenFault) → IsReachFault domain config fault → IsBefore fault
+ports_before domain config (Run fault) h = h
+ports_before domain config BadAddress h = tt
+ports_before domain config BadPeers h = tt
+ports_before domain config NoText h = tt
+ports_before domain config BadPrefix h = tt
+ports_before domain config BadWriter h = tt
+ports_before domain config OnlyAnnounced h = tt
+ports_before domain config TooLong h = tt
+ports_before domain config (NoPorts first last) h = tt
+ports_before domain config Socket h = tt
 
 none : {H J A : Type 0} (ways : Networks H J A) (o : Options) (before after : Station H J A) (old : Option (List ℕ)) (s : Result (Unit {0}) ListenFault)
     (fault : ListenFault) → IsErrAnd s (λ e. e ≡ fault) → IsBefore fault → after ≡ before → Appears ways o before after old old s
@@ -224,8 +247,9 @@ pub prefix_none : {H J A : Type 0} (ways : Networks H J A) (o : Options) (statio
 prefix_none ways o station old s fault is h = none ways o station station old s fault is (config_before o fault h) refl
 
 pub ports_none : {H J A : Type 0} (ways : Networks H J A) (o : Options) (before after : Station H J A) (old : Option (List ℕ)) (s : Result (Unit {0}) ListenFault)
-    (domain : ℕ) (fault : ListenFault) → IsErrAnd s (λ e. e ≡ fault) → IsReachFault domain fault → after ≡ before → Appears ways o before after old old s
-ports_none ways o before after old s domain fault is h same = none ways o before after old s fault is (ports_before domain fault h) same
+    (domain : ℕ) (config : Config) (fault : ListenFault) → IsErrAnd s (λ e. e ≡ fault) → IsReachFault domain config fault → after ≡ before
+    → Appears ways o before after old old s
+ports_none ways o before after old s domain config fault is h same = none ways o before after old s fault is (ports_before domain config fault h) same
 
 -- what is passed on of how the run ended is what it left
 passed_on : (made : LiveRun) (limits : Limits) (before after : Option (List Traffic)) (old new : Option (List ℕ)) (ended s : Result (Unit {0}) ListenFault)
@@ -237,7 +261,7 @@ passed_on made limits before after old new ended s h how = elim how [
 
 -- the run over the network by which it announced itself, from its start to the farewell
 pub appears_all : {H J A : Type 0} (ways : Networks H J A) (o : Options) (reach : Reach) (config : Config) (before after : Station H J A) (network start last gone : A)
-    (old new : Option (List ℕ)) (ended s : Result (Unit {0}) ListenFault) → IsReachOf o reach → IsAnnouncedConfigOf o reach.address config
+    (old new : Option (List ℕ)) (ended s : Result (Unit {0}) ListenFault) → IsReachOf o reach → IsAnnouncedConfigOf (ways.reads before.host) o reach.address config
     → ways.appears before.host reach config after.host network → IsQuiet (ways.heard network) → IsSilent (ways.announced network) → after.announced ≡ Some gone
     → start ≡ network → ListensBy (live_run_of o.raw config o.summary) (limits_of o.count o.turns) (ways.heard start) (ways.heard last) old new ended
     → ways.speech last ≡ ways.speech start → ways.heard gone ≡ ways.heard last → (s ≡ ended) ⊎ (s ≡ Err (Run NoMemory))

@@ -16,10 +16,11 @@ pub ranks_more : {X : Type 0} (f : ℕ → X) (n : ℕ) → map f (range_with_le
 ranks_more f n = map-range_with_len_more f 0 n n (omega arith)
 
 -- and one reader more
-pub readers_more : (all before : List ReaderConfig) (last : ReaderConfig) (topic : Text) (reliability : Reliability) (n : ℕ) → all ≡ before ++ last ∷ []
-    → map wish_of before ≡ readers_of topic reliability n → wish_of last ≡ reader_of topic reliability n → map wish_of all ≡ readers_of topic reliability (n + 1)
-readers_more all before last topic reliability n more have is =
-    ap (map wish_of) more ∙ map-append wish_of before (last ∷ []) ∙ ap₂ (λ xs x. xs ++ x ∷ []) have is ∙ sym (ranks_more (reader_of topic reliability) n)
+pub readers_more : (all before : List ReaderConfig) (last : ReaderConfig) (topic type_name : Text) (reliability : Reliability) (n : ℕ) → all ≡ before ++ last ∷ []
+    → map wish_of before ≡ readers_of topic type_name reliability n → wish_of last ≡ reader_of topic type_name reliability n
+    → map wish_of all ≡ readers_of topic type_name reliability (n + 1)
+readers_more all before last topic type_name reliability n more have is =
+    ap (map wish_of) more ∙ map-append wish_of before (last ∷ []) ∙ ap₂ (λ xs x. xs ++ x ∷ []) have is ∙ sym (ranks_more (reader_of topic type_name reliability) n)
 
 -- and one more match of each, where there is a writer
 pub matches_more : (writer : Option Guid) (n : ℕ) → matches_of writer (n + 1) ≡ matches_of writer n ++ match_at writer n

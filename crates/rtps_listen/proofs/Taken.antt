@@ -35,8 +35,8 @@ twice_shown : (rs : List ReaderConfig) → has_twice is_same_entity rs ≡ has_t
 twice_shown [] = refl
 twice_shown (r ∷ rs) = ap₂ (λ a b. a || b) (list_any-map (is_same (wish_of r)) wish_of rs) (twice_shown rs)
 
-entities_differ : (topic : Text) (reliability : Reliability) (i j : ℕ) → i < j → is_same (reader_of topic reliability i) (reader_of topic reliability j) ≡ false
-entities_differ topic reliability i j lt = rw (ne_eqb (i + 1) (j + 1) (λ e. omega arith)) refl
+entities_differ : (topic type_name : Text) (reliability : Reliability) (i j : ℕ) → i < j → is_same (reader_of topic type_name reliability i) (reader_of topic type_name reliability j) ≡ false
+entities_differ topic type_name reliability i j lt = rw (ne_eqb (i + 1) (j + 1) (λ e. omega arith)) refl
 
 pairs_differ : (writer : Guid) (i j : ℕ) → i < j → is_same_pair (match_of writer i) (match_of writer j) ≡ false
 pairs_differ writer i j lt = rw (ne_eqb i j (λ e. omega arith)) refl
@@ -45,10 +45,10 @@ pairs_differ writer i j lt = rw (ne_eqb i j (λ e. omega arith)) refl
 few : (n : ℕ) → 1 ≤ n → n ≤ 8 → (n == 0 || nat_lt 256 n) ≡ false
 few n low high = grind (arith, nat_tests)
 
-readers_good : (topic : Text) (reliability : Reliability) (rs : List ReaderConfig) (n : ℕ) → map wish_of rs ≡ readers_of topic reliability n → (list_any is_bad_reader rs || has_twice is_same_entity rs) ≡ false
-readers_good topic reliability rs n have =
-    let bad : list_any is_bad_reader rs ≡ false = list_any-map is_bad wish_of rs ∙ ap (list_any is_bad) have ∙ no_rank_passes is_bad (reader_of topic reliability) 0 n (λ k above below. refl) in
-    let twice : has_twice is_same_entity rs ≡ false = twice_shown rs ∙ ap (has_twice is_same) have ∙ ranks_differ is_same (reader_of topic reliability) 0 n (entities_differ topic reliability) in
+readers_good : (topic type_name : Text) (reliability : Reliability) (rs : List ReaderConfig) (n : ℕ) → map wish_of rs ≡ readers_of topic type_name reliability n → (list_any is_bad_reader rs || has_twice is_same_entity rs) ≡ false
+readers_good topic type_name reliability rs n have =
+    let bad : list_any is_bad_reader rs ≡ false = list_any-map is_bad wish_of rs ∙ ap (list_any is_bad) have ∙ no_rank_passes is_bad (reader_of topic type_name reliability) 0 n (λ k above below. refl) in
+    let twice : has_twice is_same_entity rs ≡ false = twice_shown rs ∙ ap (has_twice is_same) have ∙ ranks_differ is_same (reader_of topic type_name reliability) 0 n (entities_differ topic type_name reliability) in
     ap₂ (λ a b. a || b) bad twice
 
 -- a rank that a reader has leaves the writer to be judged
@@ -75,9 +75,9 @@ unfolding answer check_of
 made_told options own writer config made =
     let n = options.readers in
     let count : length config.readers.items ≡ n =
-    sym (length-map config.readers.items wish_of) ∙ ap length made.readers ∙ length-map-range_with_len (reader_of options.topic.now (reliability_of options.best_effort)) 0 n in
+    sym (length-map config.readers.items wish_of) ∙ ap length made.readers ∙ length-map-range_with_len (reader_of options.topic.now options.type_name.now (reliability_of options.best_effort)) 0 n in
     let readers : has_fault Readers config ≡ false = rw count (few n options.some options.few) in
-    let bad : has_fault BadReader config ≡ false = readers_good options.topic.now (reliability_of options.best_effort) config.readers.items n made.readers in
+    let bad : has_fault BadReader config ≡ false = readers_good options.topic.now options.type_name.now (reliability_of options.best_effort) config.readers.items n made.readers in
     let fixed : has_fault BadFixed config ≡ is_unmatched own writer = rw (count, made.prefix, made.fixed) (fixed_fault own writer n options.some) in
     let whole : answer (has_fault Readers config) (has_fault BadReader config) (has_fault BadFixed config) ≡ told (is_unmatched own writer) = rw (readers, bad, fixed) refl in
     whole

@@ -1,11 +1,13 @@
 -- What a participant that announces itself writes, calls and announces (DDSI-RTPS 8.5.3, 8.5.4).
-use Rattle.std.specs.Prelude.{◌≡◌, ◌≢◌, ◌⊎◌, ◌++◌, ℕ, List, [], ◌∷◌, length, Option, None, Some, Result, Ok, Err, IsErrAnd, IsTrue, ⊤, MatchBool, map, slice_index}
+use Rattle.std.specs.Prelude.{◌≡◌, ◌≢◌, ◌⊎◌, ◌++◌, ℕ, List, [], ◌∷◌, Option, None, Some, Result, Ok, Err, IsErrAnd, IsTrue, true, ⊤, MatchBool, map, slice_index}
+use Rattle.std.specs.Int.{to_be_bytes, w64}
 use Rattle.std.specs.Str.{bytes_eq}
 use Rattle.std.specs.Net.Addr.{ipv4_octets}
 use Rattle.std.specs.declared.net.ipv4_addr.Ipv4Addr.{Ipv4Addr}
 use Rattle.rtps_types.specs.declared.identity.Guid.{Guid}
 use Rattle.rtps_types.specs.declared.identity.GuidPrefix.{GuidPrefix}
 use Rattle.rtps_types.specs.declared.locator.Locator.{Locator}
+use Rattle.dds_announced.specs.Speaker.{has_long}
 use Rattle.rtps_discovery.specs.declared.config.Config.{Config}
 use Rattle.rtps_files.specs.Prefixes.{IsPrefixText, WritesPrefix}
 use Rattle.rtps_records.specs.Speech.{HasLeft}
@@ -31,30 +33,42 @@ use Rattle.rtps_listen.specs.declared.reach.Reach.{Reach}
 abbrev pub four_octets : Ipv4Addr → List ℕ
 four_octets address = map (slice_index (ipv4_octets address)) (0 ∷ 1 ∷ 2 ∷ 3 ∷ [])
 
--- a prefix that was made for a participant at this address: two octets 0b, those of the address, and
--- six of the time
-abbrev pub IsMadeAt : Ipv4Addr → GuidPrefix → Type 0
-IsMadeAt address own =
-    (time : List ℕ) × (length time ≡ 6)
-    × (own.0 ≡ 0x0b ∷ 0x0b ∷ (four_octets address ++ time))
+-- the lower six octets of a time of 64 bits, the greatest first
+abbrev pub six_octets : ℕ → List ℕ
+six_octets time = map (slice_index (to_be_bytes w64 time)) (2 ∷ 3 ∷ 4 ∷ 5 ∷ 6 ∷ 7 ∷ [])
 
--- the prefix that `--own` writes, or a made one where none is given
-abbrev pub IsOwn : Options → Ipv4Addr → GuidPrefix → Type 0
-IsOwn options address own =
-    MatchBool (bytes_eq options.own.now own_text) (IsMadeAt address own)
+-- the prefix that is made for a participant at this address and time, in nanoseconds: two octets 0b,
+-- those of the address, and the lower six of the time
+abbrev pub prefix_at : Ipv4Addr → ℕ → GuidPrefix
+prefix_at address time =
+    record { 0 = 0x0b ∷ 0x0b ∷ (four_octets address ++ six_octets time) }
+
+-- a prefix that was made at this address and at one of these times
+abbrev pub IsMadeAt : (ℕ → Type 0) → Ipv4Addr → GuidPrefix → Type 0
+IsMadeAt times address own = (time : ℕ) × times time × (own ≡ prefix_at address time)
+
+-- the prefix that `--own` writes, or where none is given one that was made at one of these times
+abbrev pub IsOwn : (ℕ → Type 0) → Options → Ipv4Addr → GuidPrefix → Type 0
+IsOwn times options address own =
+    MatchBool (bytes_eq options.own.now own_text) (IsMadeAt times address own)
     (WritesPrefix options.own.now own)
 
--- the configuration that options ask for, of a participant at this address
-abbrev pub IsAnnouncedConfigOf : Options → Ipv4Addr → Config → Type 0
-IsAnnouncedConfigOf options address config =
-    (own : GuidPrefix) × (writer : Option Guid) × IsOwn options address own
+-- the configuration that options ask for, of a participant that came to this address at one of these
+-- times
+abbrev pub IsAnnouncedConfigOf : (ℕ → Type 0) → Options → Ipv4Addr → Config → Type 0
+IsAnnouncedConfigOf times options address config =
+    (own : GuidPrefix) × (writer : Option Guid) × IsOwn times options address own
     × NamesWriter options.fixed writer × IsMadeOf options own writer config
+
+abbrev pub AnyTime : ℕ → Type 0
+AnyTime time = Unit {0}
 
 -- no reader of it is matched with the writer that options name
 abbrev pub IsUnmatchedAt : Options → Type 0
 IsUnmatchedAt options =
-    (address : Ipv4Addr) × (own : GuidPrefix) × (writer : Option Guid) × IsOwn options address own
-    × NamesWriter options.fixed writer × IsTrue (is_unmatched own writer)
+    (address : Ipv4Addr) × (own : GuidPrefix) × (writer : Option Guid)
+    × IsOwn AnyTime options address own × NamesWriter options.fixed writer
+    × IsTrue (is_unmatched own writer)
 
 -- ---- what is refused
 
@@ -67,14 +81,21 @@ pub record RefusesReach (options : Options) (result : Result (Unit {0}) ListenFa
       → IsErrAnd result
       (λ fault. (fault ≡ BadPeers) ⊎ ((fault ≡ BadAddress) ⊎ IsCause options fault))
 
--- why there is no such participant in a domain: its sockets, the record of a reader, or memory
-abbrev pub IsReachFault : ℕ → ListenFault → Type 0
-IsReachFault domain Socket = Unit {0}
-IsReachFault domain TooLong = Unit {0}
-IsReachFault domain (NoPorts first last) =
+-- why there is no participant with this configuration in a domain: its sockets, the record of a
+-- reader that no datagram carries, or memory
+abbrev pub IsReachFault : ℕ → Config → ListenFault → Type 0
+IsReachFault domain config Socket = Unit {0}
+IsReachFault domain config TooLong = has_long config.own config.readers.items ≡ true
+IsReachFault domain config (NoPorts first last) =
     (first ≡ port_of domain 0 Metatraffic) × (last ≡ port_of domain (last_index domain) UserData)
-IsReachFault domain (Run fault) = fault ≡ NoMemory
-IsReachFault domain fault = ⊥
+IsReachFault domain config (Run fault) = fault ≡ NoMemory
+IsReachFault domain config fault = ⊥
+
+-- why there is none with a configuration that options ask for
+abbrev pub IsAbsent : Options → ListenFault → Type 0
+IsAbsent options fault =
+    (address : Ipv4Addr) × (config : Config) × IsAnnouncedConfigOf AnyTime options address config
+    × IsReachFault options.domain config fault
 
 -- why its configuration can't be had: the writer, or the time
 abbrev pub IsAnnouncedCause : Options → ListenFault → Type 0
@@ -90,7 +111,8 @@ IsAppearCause options BadPrefix = ¬ IsPrefixText options.own.now
 IsAppearCause options BadWriter =
     ¬ IsFixedText options.fixed ⊎ (IsUnmatched options ⊎ IsUnmatchedAt options)
 IsAppearCause options (Run fault) = Unit {0}
-IsAppearCause options fault = IsReachFault options.domain fault
+IsAppearCause options Socket = Unit {0}
+IsAppearCause options fault = IsAbsent options fault
 
 -- ---- what it does
 
@@ -109,7 +131,7 @@ pub record AppearsAll {H J A : Type 0} (ways : Networks H J A) (options : Option
   pub reach : Reach
   pub is_reach : IsReachOf options reach
   pub config : Config
-  pub is_config : IsAnnouncedConfigOf options reach.address config
+  pub is_config : IsAnnouncedConfigOf (ways.reads before.host) options reach.address config
   pub network : A
   pub appeared : ways.appears before.host reach config after.host network
   pub quiet : IsQuiet (ways.heard network)

@@ -1,5 +1,5 @@
 -- The configuration that options ask for, and why they are refused.
-use Rattle.std.specs.Prelude.{◌≡◌, ℕ, ◌+◌, List, [], ◌∷◌, map, Bool, true, false, not, ◌||◌, IsTrue, Option, Some, None, ◌⊎◌, Result, Err, codes}
+use Rattle.std.specs.Prelude.{◌≡◌, ℕ, ◌+◌, List, [], ◌∷◌, map, Bool, true, false, not, ◌||◌, IsTrue, Option, Some, None, ◌⊎◌, Result, Err}
 use Rattle.std.specs.List.{range_with_len}
 use Rattle.std.specs.Str.{bytes_eq}
 use Rattle.std.specs.Borrow.{Bor}
@@ -32,20 +32,20 @@ abbrev pub reliability_of : Bool → Reliability
 reliability_of true = BestEffort
 reliability_of false = Reliable
 
--- the reader of a rank: it has the type of the Shapes demo, and the policies that hold where none
--- is announced
-abbrev pub reader_of : Text → Reliability → ℕ → Wish
-reader_of topic reliability rank = record {
+-- the reader of a rank: it has this topic and type, and the policies that hold where none is announced
+abbrev pub reader_of : Text → Text → Reliability → ℕ → Wish
+reader_of topic type_name reliability rank = record {
   entity = entity_of rank;
   topic = topic;
-  type_name = codes "ShapeType";
+  type_name = type_name;
   policies = default_policies reliability;
   partitions = [];
 }
 
 -- n readers, by their ranks
-abbrev pub readers_of : Text → Reliability → ℕ → List Wish
-readers_of topic reliability count = map (reader_of topic reliability) (range_with_len 0 count)
+abbrev pub readers_of : Text → Text → Reliability → ℕ → List Wish
+readers_of topic type_name reliability count =
+    map (reader_of topic type_name reliability) (range_with_len 0 count)
 
 -- the match of the reader of a rank, which knows no address of the writer
 abbrev pub match_of : Guid → ℕ → FixedMatch
@@ -73,7 +73,8 @@ pub record IsMadeOf (options : Options) (own : GuidPrefix) (writer : Option Guid
     : Type 0 where
   pub prefix : config.own ≡ own
   pub readers : map wish_of config.readers.items
-      ≡ readers_of options.topic.now (reliability_of options.best_effort) options.readers
+      ≡ readers_of options.topic.now options.type_name.now (reliability_of options.best_effort)
+      options.readers
   pub fixed : config.fixed.items ≡ matches_of writer options.readers
 
 -- what the texts of options write

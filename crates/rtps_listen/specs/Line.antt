@@ -67,6 +67,16 @@ topic_rule =
     record (new_rule (codes "topic"))
     { value_names = 1; long = Some (codes "topic"); defaults = topic_text ∷ [] }
 
+-- the type of the topic if none is given
+abbrev pub type_text : List ℕ
+type_text = codes "ShapeType"
+
+-- `--type TEXT`
+abbrev pub type_rule : Rule
+type_rule =
+    record (new_rule (codes "type"))
+    { value_names = 1; long = Some (codes "type"); defaults = type_text ∷ [] }
+
 -- `--fixed HEX`
 abbrev pub fixed_rule : Rule
 fixed_rule = record (new_rule (codes "fixed")) { value_names = 1; long = Some (codes "fixed") }
@@ -166,9 +176,9 @@ with_ends a = with_rule (with_rule a count_rule) turns_rule
 unfoldable pub with_sizes : App → App
 with_sizes a = with_rule (with_rule (with_rule a workers_rule) batch_rule) readers_rule
 
--- the options for the topic, the participant and the writer that is known from the start
+-- the options for the topic, its type, the participant and the writer that is known from the start
 unfoldable pub with_names : App → App
-with_names a = with_rule (with_rule (with_rule a topic_rule) own_rule) fixed_rule
+with_names a = with_rule (with_rule (with_rule (with_rule a topic_rule) type_rule) own_rule) fixed_rule
 
 -- the flags
 unfoldable pub with_flags : App → App

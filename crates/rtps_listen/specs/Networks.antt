@@ -13,6 +13,8 @@ pub record Networks (H J A : Type 0) : Type 1 where
   pub joins : H → Binding → H → J → Type 0
   -- the calls so far, where they are known
   pub traffic : J → Option (List Traffic)
+  -- the times in nanoseconds that the clock of a host may read
+  pub reads : H → ℕ → Type 0
   -- what a host becomes by a participant that is to be found so and has this configuration, and by
   -- which network that announces itself
   pub appears : H → Reach → Config → H → A → Type 0

@@ -7,7 +7,7 @@ use Rattle.std.specs.Str.{bytes_eq}
 use Rattle.std.specs.Str.Parse.{digits_value, without_leading_plus}
 use Rattle.clap.specs.Words.{Row, Text, first_of, one_of}
 use Rattle.rtps_listen.specs.declared.options.Options.{Options}
-use Rattle.rtps_listen.specs.Line.{address_text, own_text, topic_text}
+use Rattle.rtps_listen.specs.Line.{address_text, own_text, topic_text, type_text}
 
 -- the text after this name, or else this one
 abbrev pub text_or : Text → Text → List Row → Text
@@ -56,6 +56,7 @@ pub record AreOptions (options : Options) (rows : List Row) : Type 0 where
   pub batch : options.batch
       ≡ batch_size (one_to 64 (number_in (codes "workers") rows)) (number_in (codes "batch") rows)
   pub topic : options.topic.now ≡ text_or (codes "topic") topic_text rows
+  pub type_name : options.type_name.now ≡ text_or (codes "type") type_text rows
   pub fixed : option_map (λ text. text.now) options.fixed ≡ first_of (codes "fixed") rows
   pub best_effort : options.best_effort ≡ is_set (codes "best-effort") rows
   pub raw : options.raw ≡ is_set (codes "raw") rows

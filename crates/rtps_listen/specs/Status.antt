@@ -56,7 +56,7 @@ fault_text BadWriter = codes "bad writer"
 fault_text BadAddress = codes "bad address"
 fault_text BadPeers = codes "bad peers"
 fault_text OnlyAnnounced = codes "--peers, --no-multicast and --lease need --announce"
-fault_text TooLong = codes "a topic is too long to be announced"
+fault_text TooLong = codes "a topic or type is too long to be announced"
 fault_text (NoPorts first last) =
     codes "no two ports of "
     ++ (decimal first ++ (codes " to " ++ (decimal last ++ codes " are free")))

@@ -3,7 +3,7 @@
 ghost use Rattle.std.specs.Prelude.{◌≡◌, ◌≢◌, ◌⊎◌, Err, IfErr, IfOk, IsErr, Ok, OnErr, OnOk};
 ghost use Rattle.rtps_discovery.specs.Config.{check_of};
 ghost use Rattle.rtps_records.specs.Speech.{HasLeft};
-ghost use Rattle.rtps_listen.specs.Appearing.{Appears, IsAnnouncedCause, IsAnnouncedConfigOf, IsMadeAt};
+ghost use Rattle.rtps_listen.specs.Appearing.{Appears, IsAnnouncedCause, IsAnnouncedConfigOf, prefix_at};
 ghost use Rattle.rtps_listen.specs.Configs.{IsConfigOf};
 ghost use Rattle.rtps_listen.specs.Networks.{Networks};
 ghost use Rattle.rtps_listen.specs.Request.{RefusesFirst};
@@ -27,7 +27,7 @@ use std::thread::Threads;
 /// octets 0b, the address, and the lower six octets of the time. So no two participants have the
 /// same one, nor one participant after it was started again (DDSI-RTPS 8.2.4.1).
 fn prefix_at(address: Ipv4Addr, time: u64) -> GuidPrefix
-    ensures { IsMadeAt address result }
+    ensures { result ≡ prefix_at address time }
 {
     let [a, b, c, d] = address.octets();
     let [_, _, e, f, g, h, i, j] = time.to_be_bytes();
@@ -47,7 +47,7 @@ fn announced_config<H: Network>(
 ) -> Result<Config, ListenFault>
     requires given { IsConfigOf options.now config }
     requires checked { check_of config ≡ Ok tt }
-    ensures config { IfOk result (IsAnnouncedConfigOf options.now address) }
+    ensures config { IfOk result (IsAnnouncedConfigOf (H.reads host.now) options.now address) }
     ensures taken { IfOk result (λ config. check_of config ≡ Ok tt) }
     ensures fault { IfErr result (IsAnnouncedCause options.now) }
 {
@@ -96,6 +96,7 @@ pub fn appear_in<H: Network, W: Write, T: Threads + Sync>(
     ensures appears { Appears (record {
       joins = H.joins;
       traffic = H.Joined.traffic;
+      reads = H.reads;
       appears = H.appears;
       heard = H.Announced.traffic;
       speech = H.Announced.speech;

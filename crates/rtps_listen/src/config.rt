@@ -12,23 +12,21 @@ use rtps_records::RunFault;
 use rtps_types::{EntityId, Guid, GuidPrefix, Locators};
 use std::alloc::{AllocError, Global};
 
-/// The type of each reader.
-const TYPE_NAME: &str = "ShapeType";
-
 /// Returns the reader with this rank: a best-effort reader, or a reliable one, which asks again for
 /// what it misses.
 fn reader_for(
     alloc: Global,
     topic: &str,
+    type_name: &str,
     best_effort: bool,
     rank: u8,
 ) -> Result<ReaderConfig, AllocError>
     requires { rank < 8 }
     ensures { IfOk result (λ reader. wish_of reader
-        ≡ reader_of topic.now (reliability_of best_effort) rank) }
+        ≡ reader_of topic.now type_name.now (reliability_of best_effort) rank) }
 {
     let entity = EntityId([0x00, 0x00, rank + 1, 0x07]);
-    let reader = ReaderConfig::new(alloc, entity, topic, TYPE_NAME)?;
+    let reader = ReaderConfig::new(alloc, entity, topic, type_name)?;
     if best_effort {
         Ok(reader)
     } else {
@@ -66,8 +64,14 @@ fn config_with(
     ensures { IfOk result (IsMadeOf options.now own writer) }
 {
     let mut config = Config::new(alloc, own);
+    let Options {
+        topic,
+        type_name,
+        best_effort,
+        ..
+    } = *options;
     for rank in 0..options.readers {
-        let reader = reader_for(alloc, options.topic, options.best_effort, rank)?;
+        let reader = reader_for(alloc, topic, type_name, best_effort, rank)?;
         config.add_reader(reader)?;
         match_with(&mut config, alloc, writer, rank)?;
     }

@@ -91,7 +91,7 @@ impl fmt::Display for ListenFault {
             ListenFault::OnlyAnnounced => {
                 write!(f, "--peers, --no-multicast and --lease need --announce")
             }
-            ListenFault::TooLong => write!(f, "a topic is too long to be announced"),
+            ListenFault::TooLong => write!(f, "a topic or type is too long to be announced"),
             ListenFault::NoPorts(first, last) => {
                 write!(f, "no two ports of {first} to {last} are free")
             }

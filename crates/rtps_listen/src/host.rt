@@ -1,6 +1,7 @@
 //! The files, the sockets and the clocks of this machine.
 
 ghost use Rattle.std.specs.Prelude.{◌≡◌, ◌≤◌, None, option_map};
+ghost use Rattle.rtps_discovery.specs.declared.config.Config.{Config};
 ghost use Rattle.rtps_udp.specs.Calls.{announced_in};
 ghost use Rattle.rtps_listen.specs.Appearing.{IsReachFault};
 ghost use Rattle.rtps_listen.specs.Hosts.{IsFoundBy};
@@ -71,6 +72,9 @@ impl<'a> Network for Host<'a> {
 
     ghost appears = { λ _ reach config _ network. IsFoundBy reach config network };
 
+    // Nothing is known of the clock of this machine.
+    ghost reads = { λ _ _. Unit {0} };
+
     fn join(&mut self, alloc: Global, binding: Binding) -> Result<Self::Joined, SocketFault> {
         Sockets::bind_at(self.rt, self.rt, alloc, binding)
     }
@@ -111,7 +115,7 @@ impl<'a> Network for Host<'a> {
 /// taken, `NoMemory`, and `Socket` for any other fault.
 fn bind_fault(domain: u16, fault: SocketFault) -> ListenFault
     requires { domain ≤ 232 }
-    ensures { IsReachFault domain result }
+    ensures { (config : Config) → IsReachFault domain config result }
 {
     match fault {
         SocketFault::DiscoveryPortTaken | SocketFault::UserPortTaken => {

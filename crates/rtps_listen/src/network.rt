@@ -42,6 +42,9 @@ pub trait Network {
 
     ghost appears: { Self → Reach → Config → Self → Self.Announced → Type 0 };
 
+    /// The times in nanoseconds that its clock may read.
+    ghost reads: { Self → ℕ → Type 0 };
+
     /// Takes part in a domain, as its first participant, at an address of this machine. By this
     /// alone nothing is received or sent. At a fault the host is unchanged.
     fn join(&mut self, alloc: Global, binding: Binding) -> Result<Self::Joined, SocketFault>
@@ -66,12 +69,13 @@ pub trait Network {
             appears self.old reach.now config.now self.new network) }
         ensures quiet { IfOk result (λ network. IsQuiet (Self.Announced.traffic network)) }
         ensures silent { IfOk result (λ network. IsSilent (Self.Announced.announced network)) }
-        ensures fault { IfErr result (IsReachFault reach.now.domain) }
+        ensures fault { IfErr result (IsReachFault reach.now.domain config.now) }
         ensures same { OnErr result (self.new ≡ self.old) };
 
     /// Returns the time in nanoseconds, by a clock of which no two participants of this machine read
     /// the same time.
-    fn nanoseconds(&self) -> io::Result<u64>;
+    fn nanoseconds(&self) -> io::Result<u64>
+        ensures { IfOk result (reads self.now) };
 }
 
 /// A host, with the network that it has joined last, and the one by which a participant of it has

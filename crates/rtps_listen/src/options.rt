@@ -11,6 +11,9 @@ pub const ADDRESS: &str = "127.0.0.1";
 /// The topic of the readers if `--topic` isn't given.
 pub const TOPIC: &str = "Square";
 
+/// The type of the topic if `--type` isn't given: that of the Shapes demo.
+pub const TYPE_NAME: &str = "ShapeType";
+
 /// The options of all subcommands. One that a subcommand doesn't have is as if no value was given.
 #[derive(Clone, Copy, Debug, PartialEq, Eq)]
 pub struct Options<'a> {
@@ -26,6 +29,8 @@ pub struct Options<'a> {
     pub batch: u16,
     /// The topic of each reader.
     pub topic: &'a str,
+    /// The name of its type, as writers announce it.
+    pub type_name: &'a str,
     /// A writer that each reader is matched with from the start, in hex.
     pub fixed: Option<&'a str>,
     /// Whether the readers ask for nothing again.
@@ -80,6 +85,7 @@ impl Options<'_> {
             workers: 1,
             batch: 512,
             topic: TOPIC,
+            type_name: TYPE_NAME,
             fixed: None,
             best_effort: false,
             raw: false,

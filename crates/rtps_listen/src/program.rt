@@ -44,6 +44,7 @@ pub fn run<H: RecordFiles + Network, S: AsStr, W: Write + Send, T: Threads + Syn
     ensures { Leaves (map S.text words.entry.now) (H.holds station.old.host) (record {
       joins = H.joins;
       traffic = H.Joined.traffic;
+      reads = H.reads;
       appears = H.appears;
       heard = H.Announced.traffic;
       speech = H.Announced.speech;
@@ -76,6 +77,7 @@ fn perform<H: RecordFiles + Network, W: Write + Send, T: Threads + Sync>(
     ensures { Does request.now (H.holds station.old.host) (record {
       joins = H.joins;
       traffic = H.Joined.traffic;
+      reads = H.reads;
       appears = H.appears;
       heard = H.Announced.traffic;
       speech = H.Announced.speech;

@@ -5,7 +5,7 @@ ghost use Rattle.clap.specs.Words.{found_of, rows_of};
 ghost use Rattle.rtps_listen.specs.Options.{AreOptions, batch_size, is_set, number_in, one_to, text_or, up_to};
 ghost use Rattle.rtps_listen.specs.Request.{Asks, AsksLive};
 
-use crate::options::{ADDRESS, OWN, Options, TOPIC};
+use crate::options::{ADDRESS, OWN, Options, TOPIC, TYPE_NAME};
 use clap::ArgMatches;
 
 /// What the words ask for, with the options of the subcommand.
@@ -106,6 +106,7 @@ fn options_in<'a>(matches: &ArgMatches<'a>) -> Options<'a>
         workers,
         batch: batch_size(workers, number_in(matches, "batch")),
         topic: text_in(matches, "topic", TOPIC),
+        type_name: text_in(matches, "type", TYPE_NAME),
         fixed: matches.get_str("fixed"),
         best_effort: flag_in(matches, "best-effort"),
         raw: flag_in(matches, "raw"),

@@ -191,7 +191,7 @@ const FAULTS: [(ListenFault, &str, u8); 16] = [
     ),
     (
         ListenFault::TooLong,
-        "a topic is too long to be announced",
+        "a topic or type is too long to be announced",
         2,
     ),
     (

@@ -7,7 +7,7 @@ ghost use Rattle.rtps_listen.specs.Line as line;
 ghost use Rattle.rtps_listen.specs.Line.{IsPlainApp, IsPlainRule};
 ghost use Rattle.rtps_listen.specs.Request.{Asks};
 
-use crate::options::{ADDRESS, OWN, TOPIC};
+use crate::options::{ADDRESS, OWN, TOPIC, TYPE_NAME};
 use crate::request::{Request, request_of};
 use clap::{Arg, ArgAction, ArgMatches, Command, Error, value_parser};
 use std::alloc::{AllocError, Global};
@@ -140,7 +140,7 @@ fn with_sizes<'a>(alloc: Global, command: Command<'a>) -> Result<Command<'a>, Al
         .arg(readers(alloc))
 }
 
-/// Adds the options for the topic, the participant and the writer that is known from the start.
+/// Adds the options for the topic, its type, the participant and the writer that is known from the start.
 #[tactic(auto, unfolding(crate::specs::Line::with_names))]
 fn with_names<'a>(alloc: Global, command: Command<'a>) -> Result<Command<'a>, AllocError>
     requires { (out-Command command).has_globals ≡ false }
@@ -148,6 +148,7 @@ fn with_names<'a>(alloc: Global, command: Command<'a>) -> Result<Command<'a>, Al
 {
     command
         .arg(topic(alloc))?
+        .arg(type_name(alloc))?
         .arg(own(alloc))?
         .arg(fixed(alloc))
 }
@@ -231,9 +232,21 @@ fn topic<'a>(alloc: Global) -> Arg<'a>
 {
     Arg::new(alloc, "topic")
         .value_name("TEXT")
-        .help("The topic of the readers, whose type is ShapeType")
+        .help("The topic of the readers")
         .long("topic")
         .default_value(TOPIC)
+}
+
+fn type_name<'a>(alloc: Global) -> Arg<'a>
+    ensures { IsPlainRule result line.type_rule }
+{
+    Arg::new(alloc, "type")
+        .value_name("TEXT")
+        .help(
+            "The name of the topic's type, as writers announce it; for one but ShapeType use --raw",
+        )
+        .long("type")
+        .default_value(TYPE_NAME)
 }
 
 fn fixed<'a>(alloc: Global) -> Arg<'a>

@@ -20,7 +20,7 @@
 //! Its sockets, at an address of this machine in domain 0, and how it is announced: to the group of
 //! the domain, so that peers of any vendor find it, and with a lease of ten seconds:
 //!
-//! ```
+//! ~~~text
 //! let sockets = Sockets::bind_first(&rt, &rt, alloc, 0, Ipv4Addr::new(192, 0, 2, 7))?;
 //! let everyone = Locators::one(alloc, discovery_group(0));
 //! let lease = Duration {
@@ -29,20 +29,20 @@
 //! };
 //! let mut network = AnnouncedSockets::new(alloc, sockets, &config, lease, everyone)?;
 //! let mut participant = Participant::new(alloc, config, Shapes)?;
-//! ```
+//! ~~~
 //!
 //! Its reader is matched with the writers of its topic and type that others announce, as soon as
 //! their announcements come as datagrams, or with a writer that is named from the start
 //! ([`Config::add_fixed`]). What comes is a batch of datagrams, each with the moment in milliseconds
 //! at which it came. It is processed on up to 64 threads, and the answers are sent:
 //!
-//! ```
+//! ~~~text
 //! let moment = network.wait()?;
 //! batch.receive(&mut network, moment, 256)?;
 //! let datagrams = batch.datagrams(alloc)?;
 //! participant.run_in_order(&rt, alloc, &workers, &datagrams, &mut given)?;
 //! send_answers(alloc, &mut network, &given)?;
-//! ```
+//! ~~~
 //!
 //! and in the end `network.farewell()?` has others forget it at once. [`AnnouncedParticipant`] is
 //! one whose readers come and go, and are announced by then.

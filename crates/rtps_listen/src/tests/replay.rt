@@ -100,6 +100,7 @@ fn a_line_with_all_options(rt: HostRuntime) -> Result<(), Fail> {
         "--own=x",
         "a b",
         "--topic=",
+        "--type=demo::Own",
         "--readers",
         "8",
         "--workers=7",
@@ -114,6 +115,7 @@ fn a_line_with_all_options(rt: HostRuntime) -> Result<(), Fail> {
     options.workers = 7;
     options.batch = 1;
     options.topic = "";
+    options.type_name = "demo::Own";
     options.own = "x";
     options.fixed = Some("y");
     assert!(rt; reads(rt.alloc(), line.as_slice(), options)?);
@@ -232,6 +234,7 @@ fn configuration_of_eight_readers(rt: HostRuntime) -> Result<(), Fail> {
     let mut options = texts(OURS, Some("0102030405060708090a0bac00ab0102"));
     options.readers = 8;
     options.topic = "Circle";
+    options.type_name = "demo::Circle";
     options.best_effort = false;
     let config = config_of(rt.alloc(), &options)?;
     assert_eq!(rt; check(&config), Ok(()));
@@ -242,6 +245,7 @@ fn configuration_of_eight_readers(rt: HostRuntime) -> Result<(), Fail> {
     for (reader, key) in config.readers.as_slice().iter().zip(keys) {
         assert_eq!(rt; reader.entity, EntityId([0, 0, key, 7]));
         assert_eq!(rt; reader.topic.as_str(), "Circle");
+        assert_eq!(rt; reader.type_name.as_str(), "demo::Circle");
         assert_eq!(rt;
             reader.requested.policies.reliability,
             Reliability::Reliable

@@ -31,12 +31,12 @@ returns-in_err-config-clause-appears g c =
 
 pub returns-in_err-network-clause-refused : goal.returns-in_err-network-clause-refused
 returns-in_err-network-clause-refused g c =
-    ports_refused c.args.options.now c.in_ok-given.given c.in_ok-reach.reach _ _ c.in_ok-given.ensures.refused c.in_ok-reach.ensures.reach
-    c.from_residual-in_err-network.ensures.1 c.in_err-network.ensures.fault
+    ports_refused _ c.args.options.now c.in_ok-given.given c.in_ok-reach.reach c.in_ok-config.config _ _ c.in_ok-given.ensures.refused
+    c.in_ok-reach.ensures.reach c.in_ok-config.ensures.config c.from_residual-in_err-network.ensures.1 c.in_err-network.ensures.fault
 
 pub returns-in_err-network-clause-appears : goal.returns-in_err-network-clause-appears
 returns-in_err-network-clause-appears g c =
-    ports_none _ c.args.options.now _ _ _ _ _ _ c.from_residual-in_err-network.ensures.1 c.in_err-network.ensures.fault
+    ports_none _ c.args.options.now _ _ _ _ _ c.in_ok-config.config _ c.from_residual-in_err-network.ensures.1 c.in_err-network.ensures.fault
     (ap (λ h. record c.args.station.now { host = h }) c.in_err-network.ensures.same)
 
 pub returns-clause-refused : goal.returns-clause-refused

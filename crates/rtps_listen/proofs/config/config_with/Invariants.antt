@@ -6,5 +6,5 @@ use Rattle.rtps_listen.proofs.config.config_with.Given as goal
 abbrev pub invariant-loop-rank : goal.invariant-loop-rank
 invariant-loop-rank l =
     (l.config.own ≡ l.fn.own)
-    × (map wish_of l.config.readers.items ≡ readers_of l.options.topic.now (reliability_of l.options.best_effort) l.rank)
+    × (map wish_of l.config.readers.items ≡ readers_of l.options.topic.now l.options.type_name.now (reliability_of l.options.best_effort) l.rank)
     × (l.config.fixed.items ≡ matches_of l.writer l.rank)

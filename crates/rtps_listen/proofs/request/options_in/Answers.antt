@@ -14,13 +14,14 @@ returns c = record {
       let shared = c.one_to-workers.ensures.value ∙ ap (one_to 64) c.number_in.ensures in
       c.batch_size.ensures.value ∙ rw (shared, c.number_in-3.ensures) refl;
   topic = c.text_in-3.ensures;
+  type_name = c.text_in-4.ensures;
   fixed = c.get_str.ensures ∙ first_value-rows (found_of c.args.matches.now) (codes "fixed");
   best_effort = c.flag_in.ensures;
   raw = c.flag_in-2.ensures;
   summary = c.flag_in-3.ensures;
   keep = c.up_to.ensures.value ∙ ap (up_to 65536) c.number_in-4.ensures;
   domain = c.up_to-2.ensures.value ∙ ap (up_to 232) c.number_in-5.ensures;
-  address = c.text_in-4.ensures;
+  address = c.text_in-5.ensures;
   count = c.one_to-2.ensures.value ∙ ap (one_to 65536) c.number_in-6.ensures;
   turns = c.one_to-3.ensures.value ∙ ap (one_to 100000) c.number_in-7.ensures;
   announce = c.flag_in-4.ensures;
