@@ -3,7 +3,7 @@ use Rattle.std.proofs.Common.{◌≡◌, ℕ, ◌+◌, ◌*◌, ◌^◌, ◌≤�
 use Rattle.dds_xcdr.specs.Product.{product}
 use Rattle.dds_xcdr.specs.Dimensions.{HasNoCount}
 
--- the factor at a place, and those behind it
+-- the factor at a place, and those after it
 product_step : (xs : List ℕ) (i d : ℕ) → i < length xs
     → product (drop i xs) ≡ get_or xs i d * product (drop (i + 1) xs)
 product_step xs i d more = ap product (drop-cons xs i d more) ∙ rw (add-one) refl

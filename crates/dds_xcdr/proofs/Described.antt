@@ -1,5 +1,5 @@
 -- Types that are described one after another: what a description means doesn't change with those
--- behind it.
+-- after it.
 use Rattle.std.proofs.Common.{◌≡◌, ℕ, zero, suc, ◌+◌, ◌≤◌, ◌<◌, Bool, true, false, if◌then◌else◌, List, [], ◌∷◌, ◌++◌, length, map, get_or, refl, sym, ◌∙◌, ap, ap₂, subst, arith, append_assoc, append-nil, length-append, add-zero}
 use Rattle.std.specs.List.{All}
 use Rattle.std.proofs.Math.ListN.{get_or-append}
@@ -52,7 +52,7 @@ built_extends types (n ∷ ns) =
     let r = built_extends (types ++ meant types n ∷ []) ns in
     (meant types n ∷ r.0, r.1 ∙ simp append_assoc)
 
--- ---- what stands at a place
+-- ---- what is at a place
 
 pub length_built : (types : List Xtype) (ns : List Node)
     → length (built_from types ns) ≡ length types + length ns

@@ -1,4 +1,4 @@
--- What stands behind a number of 32 bits that counts it: octets behind a header, and items behind
+-- What comes after a number of 32 bits that counts it: octets after a header, and items after
 -- their count.
 use Rattle.std.proofs.Common.{◌≡◌, ◌≢◌, ℕ, ◌+◌, Bool, true, false, List, length, refl, sym, ◌∙◌, ap, subst, arith, Result, Ok, Err, OnOk, OnErr}
 use Rattle.rtps_types.specs.declared.field.Endian.{Endian}
@@ -48,7 +48,7 @@ no_count : (c m : Cursor) (e : CdrFault) → Reads (Unsigned 4) c m (Err e)
 no_count c m e reads k middle s = let h =
     reads.only k middle (span_counted c middle k s) in cc (h.0)
 
--- ---- octets behind a header
+-- ---- octets after a header
 
 -- such octets, of that number
 abbrev OfLength : (ℕ → List ℕ → Type 0) → ℕ → ℕ → List ℕ → Type 0
@@ -67,7 +67,7 @@ record Opens (is : ℕ → List ℕ → Type 0) (c end : Cursor) : Type 0 where
   header : Spans (Counts c.endian count) c middle
   inside : Spans (OfLength is count) middle end
 
--- octets behind a header, as they are passed
+-- octets after a header, as they are passed
 abbrev pub Headed : Endian → (ℕ → List ℕ → Type 0) → ℕ → List ℕ → Type 0
 Headed e is at octets = IsHeaded true at e is octets
 
@@ -128,7 +128,7 @@ headed_passes is c m after n u reads passes ends =
       known = λ e. cc e;
     }
 
--- what isn't there behind the header
+-- what isn't there after the header
 headed_fails : (is : ℕ → List ℕ → Type 0) (c m after : Cursor) (n : ℕ) (f : XcdrFault)
     → Reads (Unsigned 4) c m (Ok n) → Passes is m after (Err f)
     → Passes (Headed c.endian is) c after (Err f)
@@ -175,7 +175,7 @@ headed_short is c m e reads = record {
 same_order : (c m : Cursor) (n : ℕ) → Reads (Unsigned 4) c m (Ok n) → m.endian ≡ c.endian
 same_order c m n reads = ap (λ (x : Cursor). x.endian) (reads.found).behind
 
--- ---- such octets of the reader's byte order behind a header
+-- ---- such octets of the reader's byte order after a header
 
 -- where they end is where the header says or not
 pub headed_ends : (is : Endian → ℕ → List ℕ → Type 0) (c m after : Cursor) (n from : ℕ)
@@ -202,7 +202,7 @@ headed_faulty is c m after n f reads passes =
     let E : Endian → Type 0 = λ e. Passes (is e) m after (Err f) in
     headed_fails (is c.endian) c m after n f reads (subst E (same_order c m n reads) passes)
 
--- ---- items behind their count
+-- ---- items after their count
 
 -- the number that they are counted as
 record Holds (v : Version) (t : Xtype) (bound : ℕ) (c end : Cursor) : Type 0 where
@@ -288,7 +288,7 @@ counted_short v t bound c m e reads = record {
 
 -- ---- with a header or without
 
--- a sequence is its counted items, behind a header if there is one
+-- a sequence is its counted items, after a header if there is one
 sequence_at : (v : Version) (t : Xtype) (bound : ℕ) (e : Endian) (h : Bool) (at : ℕ)
     (octets : List ℕ) → IsHeaded h at e (AreCountedItems v t bound e) octets
     → (xs : List (ValueOf t)) × (IsWithin bound (length xs)
@@ -322,7 +322,7 @@ sequence_passes v t bound h c after r same p =
     (λ at octets s. sequence_of v t bound c.endian (has_header v t) at octets s)
     (subst H same p)
 
--- an array is its items, behind a header if there is one
+-- an array is its items, after a header if there is one
 array_at : (v : Version) (t : Xtype) (n : ℕ) (e : Endian) (h : Bool) (at : ℕ) (octets : List ℕ)
     → IsHeaded h at e (AreItems v t n e) octets
     → (xs : List (ValueOf t)) × ((length xs ≡ n)

@@ -21,7 +21,7 @@ abbrev extent : Version → ℕ → ℕ → ℕ → ℕ
 extent v size zero at = 0
 extent v size (suc n) at = span v size at + extent v size n (at + span v size at)
 
--- behind a number there is no padding before the next
+-- after a number there is no padding before the next
 no_gap : (v : Version) (size at : ℕ) → IsSize size
     → padding (alignment v size) (at + span v size at) ≡ 0
 no_gap v size at is = by_size v size at is where

@@ -9,7 +9,7 @@ abbrev pub Both : (ℕ → List ℕ → Type 0) → (ℕ → List ℕ → Type 0
 Both is js at octets = (front : List ℕ) × (back : List ℕ) × (octets ≡ front ++ back) × is at front
     × js (at + length front) back
 
--- what stands behind a span
+-- what comes after a span
 rest_is : (is : ℕ → List ℕ → Type 0) (c : Cursor) (front rest : List ℕ)
     → drop c.position c.octets ≡ front ++ rest → drop (c.position + length front) c.octets ≡ rest
 rest_is is c front rest parts =

@@ -1,4 +1,4 @@
--- What a walk over octets passes: something that stands where it is, whatever its value.
+-- What a walk over octets passes: something that is where it is, whatever its value.
 use Rattle.std.specs.Prelude.{◌≡◌, ◌≢◌, ◌≤◌, ◌⊎◌, ℕ, ◌+◌, List, [], ◌∷◌, ◌++◌, length, drop, Bool, if◌then◌else◌, Result, Ok, Err, OnOk}
 use Rattle.rtps_types.specs.declared.field.Endian.{Endian}
 use Rattle.rtps_cdr.specs.Cdr.{AreAll, Free, IsText}
@@ -46,7 +46,7 @@ AreItems v t n e at octets =
     (xs : List (ValueOf t)) × (length xs ≡ n)
     × AreAll (λ q items x. IsXcdr v t q e items x) at octets xs
 
--- their count, within a bound, and as many values
+-- their count, within a bound, and the values that it counts
 abbrev pub AreCountedItems : Version → Xtype → ℕ → Endian → ℕ → List ℕ → Type 0
 AreCountedItems v t bound e at octets =
     (xs : List (ValueOf t)) × IsWithin bound (length xs)

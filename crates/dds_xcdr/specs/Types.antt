@@ -91,7 +91,7 @@ IsEmpty (node.Enum cases) = cases.items ≡ []
 IsEmpty (node.Struct members) = members.items ≡ []
 IsEmpty other = ⊥
 
--- a description is added behind the others, where nothing speaks against it, and its id is its
+-- a description is added after the others, where nothing speaks against it, and its id is its
 -- place
 pub record Adds (n : Node) (id : TypeId) (old new : List Node) : Type 0 where
   pub place : id.0 ≡ length old

@@ -31,7 +31,7 @@ abbrev pub IsWithin : ℕ → ℕ → Type 0
 IsWithin zero n = Unit {0}
 IsWithin (suc bound) n = n ≤ suc bound
 
--- in version 2 the number of octets stands before the items of sequences and arrays, unless they
+-- in version 2 the number of octets comes before the items of sequences and arrays, unless they
 -- are primitive (DDS-XTypes 7.4.3.5.3)
 abbrev pub has_header : Version → Xtype → Bool
 has_header One item = false

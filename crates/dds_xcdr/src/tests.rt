@@ -10,7 +10,7 @@ use std::test::Fail;
 
 const SHORT: XcdrFault = XcdrFault::Cdr(CdrFault::Short);
 
-/// Returns the kind and the octets behind the header of a payload, without the padding that the
+/// Returns the kind and the octets after the header of a payload, without the padding that the
 /// header counts.
 fn parts(alloc: Global, payload: &str) -> Result<(u16, Vec<u8>), Fail> {
     let octets = hex::decode(alloc, payload)?;
@@ -60,7 +60,7 @@ fn values_of_a_peer_are_found(rt: HostRuntime) -> Result<(), Fail> {
     Ok(())
 }
 
-/// A place behind the header of the second payload of [`ENUM_SEQ`] or of [`EMP`], the octet that is
+/// A place after the header of the second payload of [`ENUM_SEQ`] or of [`EMP`], the octet that is
 /// put there, and the fault of that: an enumeration has any number, a header must count what is
 /// there, and a truth value is 0 or 1.
 const PUT: [(bool, usize, u8, Result<usize, XcdrFault>); 9] = [

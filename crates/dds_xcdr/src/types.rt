@@ -206,7 +206,7 @@ impl Types {
     }
 
     /// Adds arrays of a type (DDS-XTypes 7.2.2.4.3), and returns their id. An array of several
-    /// dimensions is encoded as one of as many items.
+    /// dimensions is encoded as one of all its items.
     ///
     /// `Unknown` if `item` names none of these types, `TooDeep` if it goes through 32 types,
     /// `TooMany` and `NoMemory` as for [`Types::primitive`]; the dimensions are dropped then.

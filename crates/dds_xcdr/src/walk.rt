@@ -125,7 +125,7 @@ fn number_size(of: &Node) -> Option<usize>
     }
 }
 
-/// Whether a header stands before items of a type.
+/// Whether a header comes before items of a type.
 fn has_header(version: Version, item: &Node) -> bool
     ensures { (types : List Xtype) → result ≡ has_header version (meant types item.now) }
 {
@@ -186,7 +186,7 @@ fn skip_sequence(
     }
 }
 
-/// Passes over a count, and as many items.
+/// Passes over a count, and the items that it counts.
 #[cycle(walk)]
 fn skip_counted(
     types: &Types,

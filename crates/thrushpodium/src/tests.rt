@@ -172,6 +172,19 @@ fn one_thread_takes_a_datagram_at_a_time(rt: HostRuntime) -> Result<(), Fail> {
     Ok(())
 }
 
+const LEASE: Duration = Duration {
+    seconds: 10,
+    fraction: 0,
+};
+
+/// A participant with a reader of squares, which is matched with the writer at this locator.
+fn matched_at(alloc: Global, writer: Locator) -> Result<Config, Fail> {
+    let mut config = Config::new(alloc, GuidPrefix([0x0b; 12]));
+    config.add_reader(squares(alloc)?.reliable().reader)?;
+    config.add_fixed(0, WRITER, Locators::one(alloc, writer))?;
+    Ok(config)
+}
+
 /// A participant announces itself to a peer at its first moment, answers what the peer sends, and says
 /// farewell. The peer is two sockets of the same domain.
 #[test]
@@ -179,20 +192,10 @@ fn a_participant_is_announced(rt: HostRuntime) -> Result<(), Fail> {
     let alloc = rt.alloc();
     let mut peer = Sockets::bind_first(&rt, &rt, alloc, DOMAIN, Ipv4Addr::LOCALHOST)?;
     let everyone = Locators::one(alloc, peer.locator(Purpose::Metatraffic));
-    let mut config = Config::new(alloc, GuidPrefix([0x0b; 12]));
-    config.add_reader(squares(alloc)?.reliable().reader)?;
-    config.add_fixed(
-        0,
-        WRITER,
-        Locators::one(alloc, peer.locator(Purpose::UserData)),
-    )?;
+    let config = matched_at(alloc, peer.locator(Purpose::UserData))?;
     let sockets = Sockets::bind_first(&rt, &rt, alloc, DOMAIN, Ipv4Addr::LOCALHOST)?;
     let user = sockets.locator(Purpose::UserData);
-    let lease = Duration {
-        seconds: 10,
-        fraction: 0,
-    };
-    let mut network = AnnouncedSockets::new(alloc, sockets, &config, lease, everyone)?;
+    let mut network = AnnouncedSockets::new(alloc, sockets, &config, LEASE, everyone)?;
     let mut participant = Participant::new(alloc, config, Shapes)?;
     network.wait()?;
     let mut room = [0; 2_000];
@@ -216,8 +219,7 @@ fn a_participant_is_announced(rt: HostRuntime) -> Result<(), Fail> {
     assert_eq!(rt; samples, Some(1));
     // An ACKNACK: it asks for number 2.
     peer.wait()?;
-    let answer = peer.receive(&mut room)?;
-    assert!(rt; matches!(answer, Some(_)));
+    assert!(rt; matches!(peer.receive(&mut room)?, Some(_)));
     assert_eq!(rt; room[36], 6);
     network.farewell()?;
     assert!(rt; network.has_left());
