@@ -12,7 +12,7 @@ use Rattle.rtps_records.specs.declared.batch_end.BatchEnd.{BatchEnd}
 use Rattle.rtps_records.specs.declared.batch_end.BatchEnd.TheVariants.{End, Fault, More}
 use Rattle.rtps_records.specs.declared.batch_end.BatchEnd.TheVariants as batch_end
 use Rattle.rtps_records.specs.declared.fault.RunFault.{RunFault}
-use Rattle.rtps_records.specs.declared.fault.RunFault.TheVariants.{CannotRead, NotRecordFile, CutRecord, RecordTooLong, TooManyRecords, CannotWrite, NoMemory}
+use Rattle.rtps_records.specs.declared.fault.RunFault.TheVariants.{CannotRead, NotRecordFile, CutRecord, RecordTooLong, TooManyRecords, CannotWrite, CannotReadNorWrite, NoMemory}
 use Rattle.rtps_records.specs.declared.format.Format.{Format}
 use Rattle.rtps_records.proofs.Progress.{all_both}
 use Rattle.rtps_bench.specs.Reading.{AreFew, HasHeld, IsFaultOf, IsRead, goes_on}
@@ -179,6 +179,7 @@ read_fault format input now m records (CutRecord at) (first, magic, held) = faul
 read_fault format input now m records (RecordTooLong at) (first, magic, held) = faulted format input first held.here m records (RecordTooLong at) magic held.read held.follows
 read_fault format input now m records TooManyRecords (first, magic, held) = faulted format input first held.here m records TooManyRecords magic held.read held.follows
 read_fault format input now m records CannotWrite (first, magic, held) = absurd held.follows
+read_fault format input now m records CannotReadNorWrite (first, magic, held) = absurd held.follows
 read_fault format input now m records NoMemory (first, magic, held) = tt
 
 -- it is no record file
@@ -189,6 +190,7 @@ first_fault input after (CutRecord at) h = absurd h
 first_fault input after (RecordTooLong at) h = absurd h
 first_fault input after TooManyRecords h = absurd h
 first_fault input after CannotWrite h = absurd h
+first_fault input after CannotReadNorWrite h = absurd h
 first_fault input after NoMemory h = absurd h
 
 -- one batch more that has few records

@@ -4,7 +4,7 @@ use Rattle.std.specs.Io.KnownBytes.{Appends}
 use Rattle.rtps_records.specs.RecordFile.{Record}
 use Rattle.rtps_records.specs.Runs.{WroteAll}
 use Rattle.rtps_records.specs.declared.fault.RunFault.{RunFault}
-use Rattle.rtps_records.specs.declared.fault.RunFault.TheVariants.{CannotRead, NotRecordFile, CutRecord, RecordTooLong, TooManyRecords, CannotWrite, NoMemory}
+use Rattle.rtps_records.specs.declared.fault.RunFault.TheVariants.{CannotRead, NotRecordFile, CutRecord, RecordTooLong, TooManyRecords, CannotWrite, CannotReadNorWrite, NoMemory}
 use Rattle.rtps_bench.specs.Configs.{IsCause}
 use Rattle.rtps_bench.specs.Measuring.{AreCountsOf, IsFault, IsRunFault, WroteCounts}
 use Rattle.rtps_bench.specs.Reading.{IsFaultOf, IsRead}
@@ -30,6 +30,7 @@ file_fault options input (CutRecord at) h = h
 file_fault options input (RecordTooLong at) h = h
 file_fault options input TooManyRecords h = h
 file_fault options input CannotWrite h = absurd h
+file_fault options input CannotReadNorWrite h = absurd h
 file_fault options input NoMemory h = h
 
 -- a fault of a run
@@ -52,4 +53,5 @@ options_fault options (Run (CutRecord at)) h = absurd h
 options_fault options (Run (RecordTooLong at)) h = absurd h
 options_fault options (Run TooManyRecords) h = absurd h
 options_fault options (Run CannotWrite) h = absurd h
+options_fault options (Run CannotReadNorWrite) h = absurd h
 options_fault options (Run NoMemory) h = refl

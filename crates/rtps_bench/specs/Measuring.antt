@@ -12,7 +12,7 @@ use Rattle.rtps_bench.specs.declared.counts.Counts.{Counts}
 use Rattle.rtps_bench.specs.declared.fault.BenchFault.{BenchFault}
 use Rattle.rtps_bench.specs.declared.fault.BenchFault.TheVariants.{BadWriter, Clock, Differs, NoText, Run}
 use Rattle.rtps_bench.specs.declared.options.Options.{Options}
-use Rattle.rtps_records.specs.declared.fault.RunFault.TheVariants.{CannotWrite, NoMemory}
+use Rattle.rtps_records.specs.declared.fault.RunFault.TheVariants.{CannotWrite, CannotReadNorWrite, NoMemory}
 
 -- these are the counts of a run over records, with the configuration that options ask for
 abbrev pub AreCountsOf : Options → List Record → Counts → Type 0
@@ -37,5 +37,6 @@ IsRunFault options (Run fault) = fault ≡ NoMemory
 -- why the program ends with a fault: that of a run, of the input, or of a write
 abbrev pub IsFault : Options → Option (List ℕ) → BenchFault → Type 0
 IsFault options input (Run CannotWrite) = Unit {0}
+IsFault options input (Run CannotReadNorWrite) = ⊥
 IsFault options input (Run fault) = IsFaultOf input fault
 IsFault options input fault = IsRunFault options fault

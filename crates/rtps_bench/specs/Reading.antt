@@ -7,7 +7,7 @@ use Rattle.rtps_records.specs.declared.batch.Batch.{Batch}
 use Rattle.rtps_records.specs.declared.batch_end.BatchEnd.{BatchEnd}
 use Rattle.rtps_records.specs.declared.batch_end.BatchEnd.TheVariants.{End, Fault, More, Tick}
 use Rattle.rtps_records.specs.declared.fault.RunFault.{RunFault}
-use Rattle.rtps_records.specs.declared.fault.RunFault.TheVariants.{CannotRead, NotRecordFile, CutRecord, RecordTooLong, TooManyRecords, CannotWrite, NoMemory}
+use Rattle.rtps_records.specs.declared.fault.RunFault.TheVariants.{CannotRead, NotRecordFile, CutRecord, RecordTooLong, TooManyRecords, CannotWrite, CannotReadNorWrite, NoMemory}
 use Rattle.rtps_records.specs.declared.format.Format.{Format}
 
 -- the octets of the input are these records, and the end or this fault after them
@@ -20,6 +20,7 @@ IsFaultOf input CannotRead = Unit {0}
 IsFaultOf input NoMemory = Unit {0}
 IsFaultOf input NotRecordFile = IfSome input IsOther
 IsFaultOf input CannotWrite = ⊥
+IsFaultOf input CannotReadNorWrite = ⊥
 IsFaultOf input fault = (records : List Record) × IsRead input records (Some fault)
 
 -- each batch has at most 4,096 records, which a participant takes at a time

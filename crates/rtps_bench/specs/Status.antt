@@ -1,7 +1,7 @@
 -- The exit statuses of the program, and the lines that it ends with.
 use Rattle.std.specs.Prelude.{ℕ, List, ◌++◌, codes}
 use Rattle.rtps_records.specs.Faults as records
-use Rattle.rtps_records.specs.declared.fault.RunFault.TheVariants.{CannotRead, NotRecordFile, CutRecord, RecordTooLong, TooManyRecords, CannotWrite, NoMemory}
+use Rattle.rtps_records.specs.declared.fault.RunFault.TheVariants.{CannotRead, NotRecordFile, CutRecord, RecordTooLong, TooManyRecords, CannotWrite, CannotReadNorWrite, NoMemory}
 use Rattle.rtps_bench.specs.declared.fault.BenchFault.{BenchFault}
 use Rattle.rtps_bench.specs.declared.fault.BenchFault.TheVariants.{NoText, BadWriter, Clock, Differs, Run}
 
@@ -18,6 +18,7 @@ status_of (Run (CutRecord n)) = 3
 status_of (Run (RecordTooLong n)) = 3
 status_of (Run TooManyRecords) = 3
 status_of (Run CannotWrite) = 3
+status_of (Run CannotReadNorWrite) = 3
 status_of (Run NoMemory) = 5
 
 -- the text in the line of a fault

@@ -5,7 +5,7 @@ use Rattle.rtps_records.specs.RecordFile.{Record}
 use Rattle.rtps_records.specs.Runs.{Stops, WroteAll, WroteFront, WroteRead, WroteReadFront}
 use Rattle.rtps_records.specs.Text.{IsFront}
 use Rattle.rtps_records.specs.declared.fault.RunFault.{RunFault}
-use Rattle.rtps_records.specs.declared.fault.RunFault.TheVariants.{CannotRead, NotRecordFile, CutRecord, RecordTooLong, TooManyRecords, CannotWrite, NoMemory}
+use Rattle.rtps_records.specs.declared.fault.RunFault.TheVariants.{CannotRead, NotRecordFile, CutRecord, RecordTooLong, TooManyRecords, CannotWrite, CannotReadNorWrite, NoMemory}
 
 -- the two texts are the same for all records
 abbrev pub AreSame : (List Record → List ℕ) → (List Record → List ℕ) → Type 0
@@ -42,10 +42,8 @@ pub stops_as : (one other : List Record → List ℕ) (fault : RunFault) (before
 unfolding Stops
 stops_as one other NotRecordFile before after old new same h = h
 stops_as one other CannotRead before after old new same h = read_as one other before after old new same h
-stops_as one other CannotWrite before after old new same h = elim h [
-  | inl front ↦ inl (front_as one other before old new same front)
-  | inr front ↦ inr (read_front_as one other before after old new same front)
-]
+stops_as one other CannotWrite before after old new same h = front_as one other before old new same h
+stops_as one other CannotReadNorWrite before after old new same h = read_front_as one other before after old new same h
 stops_as one other NoMemory before after old new same h = front_as one other before old new same h
 stops_as one other (CutRecord n) before after old new same h = all_as one other before old new (Some (CutRecord n)) same h
 stops_as one other (RecordTooLong n) before after old new same h = all_as one other before old new (Some (RecordTooLong n)) same h

@@ -1,10 +1,10 @@
 -- A run over a file: one more batch, and how it ends.
-use Rattle.std.proofs.Common.{◌≡◌, ℕ, ◌+◌, ◌≤◌, ◌⊎◌, ◌≢◌, inr, arith, List, [], ◌∷◌, ◌++◌, true, false, Option, None, Some, refl, subst, sym, ap, ◌∙◌, length, length-append, append-nil, append_assoc}
+use Rattle.std.proofs.Common.{◌≡◌, ℕ, ◌+◌, ◌≤◌, ◌⊎◌, ◌≢◌, inr, arith, List, [], ◌∷◌, ◌++◌, true, false, Option, refl, subst, sym, ap, ◌∙◌, length, length-append, append-nil, append_assoc}
 use Rattle.std.specs.Io.KnownBytes.{Appends, Consumes, IsAtEnd}
 use Rattle.std.proofs.KnownBytes.{Appends-nil, Appends-trans}
-use Rattle.rtps_records.specs.Batches.{EndsBatch, ReadsBatch, ticks_in}
+use Rattle.rtps_records.specs.Batches.{EndsBatch, ReadsBatch, fault_in, ticks_in}
 use Rattle.rtps_records.specs.RecordFile.{Record, Tick, frame}
-use Rattle.rtps_records.specs.Runs.{Closes, Moves, PutsFront, Stops}
+use Rattle.rtps_records.specs.Runs.{Closes, Moves, PutsFront, Stops, fault_after}
 use Rattle.rtps_records.specs.Text.{Ends, Says, datagrams_of, text_from, text_of}
 use Rattle.rtps_records.specs.declared.batch_end.BatchEnd.{BatchEnd}
 use Rattle.rtps_records.specs.declared.batch_end.BatchEnd.TheVariants.{End, Fault, More}
@@ -181,13 +181,6 @@ stops_taking format line begun now file here after last old new newer n m next b
     stops_printing format (HasLines line) (printed_text line begun) (printed_text line begun) file r.here last old new newer (n + length batch) (kept ++ text_from line next batch) fault (omega (arith, r.count, fewer)) cause put
     (only_lines format line begun later file r.here old new (n + length batch) _ _ (batch_read format line begun now later file here after old new n m next _ batch end kept p r refl (λ rest. refl))) (lines_begin line begun) (λ records. refl)
 
--- the fault that a batch ends with, if there is one
-abbrev pub fault_in : BatchEnd → Option RunFault
-fault_in More = None
-fault_in (code.Tick moment) = None
-fault_in End = None
-fault_in (Fault fault) = Some fault
-
 ends_here : (format : Format) (end : BatchEnd) (n : ℕ) (records : List Record) (here after : Option (List ℕ)) → goes_on end ≡ false → n ≤ 4294967295 → EndsBatch format end n records here after → EndsHere format (fault_in end) n here after
 ends_here format More n records here after not few ends = absurd (let bad : true ≡ false = not in cc)
 ends_here format (code.Tick moment) n records here after not few ends = absurd (let bad : true ≡ false = not in cc)
@@ -214,7 +207,7 @@ stops_ending format line begun now file here old new after end count next kept f
 
 -- a run stops if the last lines can't be written
 pub stops_closing_here : (format : Format) (line : Line) (begun now : Ending) (file here old new newer : Option (List ℕ)) (end : BatchEnd) (count next : ℕ) (kept out : List ℕ) (fault : RunFault) → goes_on end ≡ false → fault ≡ CannotWrite
-    → IsPrinting format line begun now file here old new end count next kept → out ≡ kept ++ now [] → PutsFront new newer out → Stops (printed_text line begun) fault file here old newer
+    → IsPrinting format line begun now file here old new end count next kept → out ≡ kept ++ now [] → PutsFront new newer out → Stops (printed_text line begun) (fault_after fault (fault_in end)) file here old newer
 stops_closing_here format line begun now file here old new newer end count next kept out fault not cannot x e put =
     stops_closing format (HasPrinted line begun now next) (printed_text line begun) (printed_text line begun) file x.there here old new newer x.n kept (fault_in end) fault x.few
     (ends_here format end x.n x.batch x.there here not x.few x.ends) x.so_far (said_begins line begun now next) (λ records. refl)

@@ -46,8 +46,8 @@ pub trait DatagramText {
 ///
 /// At a fault of a record ([`RunFault::CutRecord`], [`RunFault::RecordTooLong`],
 /// [`RunFault::TooManyRecords`]) or of a read, the text of the records before it was written. After
-/// [`RunFault::CannotWrite`] or [`RunFault::NoMemory`] a prefix of the text may have been written,
-/// and of a file that is no record file nothing was.
+/// [`RunFault::CannotWrite`], [`RunFault::CannotReadNorWrite`] or [`RunFault::NoMemory`] a prefix of
+/// that text may have been written, and of a file that is no record file nothing was.
 ///
 /// The file is never in memory as a whole. In memory are the records of one batch, at most 1 MiB,
 /// at most 64 KiB of text, and the lines of one datagram.
@@ -106,7 +106,9 @@ fn print_all<D: DatagramText, R: Read, W: Write>(
         next = print_datagrams(text, next, &batch.datagrams(alloc)?, lines)?;
     }
     text.push_ending(&mut lines.text)?;
-    lines.close()?;
+    if let Err(fault) = lines.close() {
+        return Err(fault.after(end));
+    }
     match end {
         BatchEnd::Fault(fault) => Err(fault),
         _ => Ok(()),

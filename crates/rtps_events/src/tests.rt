@@ -4,7 +4,7 @@ use crate::dump;
 use rtps_records::RunFault;
 use rtps_types::GuidPrefix;
 use std::alloc::Global;
-use std::io::{self, Error, ErrorKind, Read};
+use std::io::{self, Error, ErrorKind, Read, Write};
 use std::test::Fail;
 
 const OURS: GuidPrefix = GuidPrefix([0x0b; 12]);
@@ -75,6 +75,31 @@ impl Read for Failing<'_> {
         self.0 = &self.0[count..];
         Ok(count)
     }
+}
+
+/// A writer that takes nothing.
+#[derive(Drop)]
+struct Full;
+
+impl Write for Full {
+    fn write(&mut self, _: &[u8]) -> io::Result<usize> {
+        Err(Error::from(ErrorKind::Other))
+    }
+
+    fn flush(&mut self) -> io::Result<()> {
+        Ok(())
+    }
+}
+
+#[test]
+fn tells_of_both_where_a_read_fails_and_then_a_write(rt: HostRuntime) -> Result<(), Fail> {
+    let file = octets(rt.alloc(), &FILE)?;
+    let mut front = Failing(file.as_slice().get(..FIRST).ok_or("a front")?);
+    let outcome = dump(rt.alloc(), OURS, &mut front, &mut Full);
+    assert_eq!(rt; outcome, Err(RunFault::CannotReadNorWrite));
+    let outcome = dump(rt.alloc(), OURS, &mut file.as_slice(), &mut Full);
+    assert_eq!(rt; outcome, Err(RunFault::CannotWrite));
+    Ok(())
 }
 
 #[test]

@@ -7,7 +7,7 @@ use Rattle.rtps_records.specs.RecordFile.{Record}
 use Rattle.rtps_records.specs.Runs.{Stops, WroteAll}
 use Rattle.rtps_records.specs.declared.fault.RunFault.{RunFault}
 use Rattle.rtps_files.specs.Prefixes.{IsCause, IsPrefixText, RefusesFirst, WritesPrefix}
-use Rattle.rtps_files.specs.Printed.{IsFirst, IsUnopened, Prints, Writes}
+use Rattle.rtps_files.specs.Printed.{IsFirst, Prints, Writes}
 use Rattle.rtps_files.specs.declared.fault.FileFault.{FileFault}
 use Rattle.rtps_files.specs.declared.fault.FileFault.TheVariants.{BadPrefix, Run}
 

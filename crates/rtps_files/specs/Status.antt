@@ -1,7 +1,7 @@
 -- The exit statuses of a program that prints a file, and the text of its faults.
 use Rattle.std.specs.Prelude.{ℕ, List, codes}
 use Rattle.rtps_records.specs.Faults as records
-use Rattle.rtps_records.specs.declared.fault.RunFault.TheVariants.{CannotRead, NotRecordFile, CutRecord, RecordTooLong, TooManyRecords, CannotWrite, NoMemory}
+use Rattle.rtps_records.specs.declared.fault.RunFault.TheVariants.{CannotRead, NotRecordFile, CutRecord, RecordTooLong, TooManyRecords, CannotWrite, CannotReadNorWrite, NoMemory}
 use Rattle.rtps_files.specs.declared.fault.FileFault.{FileFault}
 use Rattle.rtps_files.specs.declared.fault.FileFault.TheVariants.{BadPrefix, Run}
 
@@ -14,6 +14,7 @@ status_of (Run (CutRecord n)) = 3
 status_of (Run (RecordTooLong n)) = 3
 status_of (Run TooManyRecords) = 3
 status_of (Run CannotWrite) = 3
+status_of (Run CannotReadNorWrite) = 3
 status_of (Run NoMemory) = 5
 
 -- the text of a fault

@@ -3,7 +3,7 @@ use Rattle.std.proofs.Common.{◌≡◌, ◌∙◌, ◌⊎◌, ◌++◌, ℕ, Li
 use Rattle.std.proofs.lemmas.List.{append-nil}
 use Rattle.rtps_records.specs.Text.{IsFront}
 use Rattle.rtps_records.specs.Traffic.{Traffic, failures_in, heard_in, sent_in}
-use Rattle.rtps_records.specs.declared.fault.RunFault.TheVariants.{CannotRead, NotRecordFile, CutRecord, RecordTooLong, TooManyRecords, CannotWrite, NoMemory}
+use Rattle.rtps_records.specs.declared.fault.RunFault.TheVariants.{CannotRead, NotRecordFile, CutRecord, RecordTooLong, TooManyRecords, CannotWrite, CannotReadNorWrite, NoMemory}
 use Rattle.rtps_text.specs.Listened.{IsDone, IsOver, Leaves, Limits, Listened, LiveRun, SentAt, WroteFrontOf}
 use Rattle.rtps_text.specs.declared.live_fault.LiveFault.{LiveFault}
 use Rattle.rtps_text.specs.declared.live_fault.LiveFault.TheVariants as live_fault
@@ -30,6 +30,7 @@ leaves_front made limits (Err live_fault.Socket) calls old new h = done_front ma
 leaves_front made limits (Err (live_fault.Run CannotWrite)) calls old new h = (whole (sent_in calls) (made.sends (heard_in calls)) h.0, h.1)
 leaves_front made limits (Err (live_fault.Run NoMemory)) calls old new h = h
 leaves_front made limits (Err (live_fault.Run CannotRead)) calls old new h = absurd h.0
+leaves_front made limits (Err (live_fault.Run CannotReadNorWrite)) calls old new h = absurd h.0
 leaves_front made limits (Err (live_fault.Run NotRecordFile)) calls old new h = absurd h.0
 leaves_front made limits (Err (live_fault.Run (CutRecord n))) calls old new h = absurd h.0
 leaves_front made limits (Err (live_fault.Run (RecordTooLong n))) calls old new h = absurd h.0

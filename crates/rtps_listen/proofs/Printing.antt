@@ -6,7 +6,7 @@ use Rattle.rtps_discovery.specs.declared.config.Config.{Config}
 use Rattle.rtps_records.specs.RecordFile.{Record}
 use Rattle.rtps_records.specs.Runs.{Stops, WroteAll}
 use Rattle.rtps_records.specs.declared.fault.RunFault.{RunFault}
-use Rattle.rtps_records.specs.declared.fault.RunFault.TheVariants.{CannotRead, NotRecordFile, CutRecord, RecordTooLong, TooManyRecords, CannotWrite, NoMemory}
+use Rattle.rtps_records.specs.declared.fault.RunFault.TheVariants.{CannotRead, NotRecordFile, CutRecord, RecordTooLong, TooManyRecords, CannotWrite, CannotReadNorWrite, NoMemory}
 use Rattle.rtps_files.specs.Printed.{IsUnopened}
 use Rattle.rtps_text.specs.Caches.{StopsLate}
 use Rattle.rtps_records.specs.Traffic.{Traffic}
@@ -49,6 +49,7 @@ cause_before o (Run (CutRecord n)) h = absurd h
 cause_before o (Run (RecordTooLong n)) h = absurd h
 cause_before o (Run TooManyRecords) h = absurd h
 cause_before o (Run CannotWrite) h = absurd h
+cause_before o (Run CannotReadNorWrite) h = absurd h
 
 before_first : (fault : ListenFault) → IsBefore fault → IsFirst fault
 before_first NoText h = tt
@@ -75,6 +76,7 @@ unopened_first (CutRecord n) h = absurd h
 unopened_first (RecordTooLong n) h = absurd h
 unopened_first TooManyRecords h = absurd h
 unopened_first CannotWrite h = absurd h
+unopened_first CannotReadNorWrite h = absurd h
 
 -- a fault of the run, as it is passed on
 pub run_fault : (s : Result (Unit {0}) ListenFault) (fault : RunFault) → IsErrAnd s (λ e. e ≡ Run fault) → IfErr s IsRun

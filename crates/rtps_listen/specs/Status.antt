@@ -2,7 +2,7 @@
 use Rattle.std.specs.Prelude.{ℕ, List, ◌++◌, Result, Ok, Err, codes}
 use Rattle.std.specs.Fmt.{decimal}
 use Rattle.rtps_records.specs.Faults as records
-use Rattle.rtps_records.specs.declared.fault.RunFault.TheVariants.{CannotRead, NotRecordFile, CutRecord, RecordTooLong, TooManyRecords, CannotWrite, NoMemory}
+use Rattle.rtps_records.specs.declared.fault.RunFault.TheVariants.{CannotRead, NotRecordFile, CutRecord, RecordTooLong, TooManyRecords, CannotWrite, CannotReadNorWrite, NoMemory}
 use Rattle.rtps_files.specs.declared.fault.FileFault.{FileFault}
 use Rattle.rtps_files.specs.declared.fault.FileFault.TheVariants as file_fault
 use Rattle.rtps_text.specs.declared.live_fault.LiveFault.{LiveFault}
@@ -40,6 +40,7 @@ status_of (Run (CutRecord n)) = 3
 status_of (Run (RecordTooLong n)) = 3
 status_of (Run TooManyRecords) = 3
 status_of (Run CannotWrite) = 3
+status_of (Run CannotReadNorWrite) = 3
 status_of (Run NoMemory) = 5
 
 -- 0 where all went well; a bad line has the command line's own text

@@ -222,6 +222,11 @@ const FAULTS: [(ListenFault, &str, u8); 16] = [
         3,
     ),
     (ListenFault::Run(RunFault::CannotWrite), "cannot write", 3),
+    (
+        ListenFault::Run(RunFault::CannotReadNorWrite),
+        "cannot write",
+        3,
+    ),
     (ListenFault::Run(RunFault::NoMemory), "out of memory", 5),
 ];
 

@@ -2,7 +2,7 @@
 use Rattle.std.proofs.Common.{◌≡◌, ℕ, suc, ◌+◌, ◌<◌, ◌≤◌, inl, inr, Option, None, Some, List, [], ◌∷◌, ◌++◌, arith, refl, length, drop, sym, ap, subst, ◌∙◌, length-append, append_assoc, zero-add}
 use Rattle.std.specs.List.{flat_map, AllByRecursion}
 use Rattle.rtps_records.specs.declared.fault.RunFault.{RunFault}
-use Rattle.rtps_records.specs.declared.fault.RunFault.TheVariants.{CannotRead, NotRecordFile, CutRecord, RecordTooLong, TooManyRecords, CannotWrite, NoMemory}
+use Rattle.rtps_records.specs.declared.fault.RunFault.TheVariants.{CannotRead, NotRecordFile, CutRecord, RecordTooLong, TooManyRecords, CannotWrite, CannotReadNorWrite, NoMemory}
 use Rattle.std.proofs.lemmas.List.{append_cancel_left}
 use Rattle.rtps_records.specs.RecordFile.{Record, EndsBy, Holds, IsRecord, IsShort, OneReading, Reads, body_of, octets_after, frame, magic_of, stated_length}
 use Rattle.rtps_records.specs.declared.format.Format.{Format}
@@ -27,6 +27,7 @@ no_end f (Some TooManyRecords) n x r y e is few h = let same = h.0 in omega arit
 no_end f (Some NotRecordFile) n x r y e is few h = h
 no_end f (Some CannotRead) n x r y e is few h = h
 no_end f (Some CannotWrite) n x r y e is few h = h
+no_end f (Some CannotReadNorWrite) n x r y e is few h = h
 no_end f (Some NoMemory) n x r y e is few h = h
 
 at_most : (f : Format) (g : Option RunFault) (n : ℕ) (x : List ℕ) → EndsBy f g n x → n ≤ 4294967295
@@ -37,6 +38,7 @@ at_most f (Some TooManyRecords) n x h = let same = h.0 in omega arith
 at_most f (Some NotRecordFile) n x h = absurd h
 at_most f (Some CannotRead) n x h = absurd h
 at_most f (Some CannotWrite) n x h = absurd h
+at_most f (Some CannotReadNorWrite) n x h = absurd h
 at_most f (Some NoMemory) n x h = absurd h
 
 records_same : (t : Format) (rs ss : List Record) (n : ℕ) (x y : List ℕ) (f g : Option RunFault) → AllByRecursion (IsRecord t) rs → AllByRecursion (IsRecord t) ss
@@ -84,22 +86,27 @@ ends_same t n x (Some TooManyRecords) (Some TooManyRecords) h k = refl
 ends_same t n x (Some NotRecordFile) g h k = absurd h
 ends_same t n x (Some CannotRead) g h k = absurd h
 ends_same t n x (Some CannotWrite) g h k = absurd h
+ends_same t n x (Some CannotReadNorWrite) g h k = absurd h
 ends_same t n x (Some NoMemory) g h k = absurd h
 ends_same t n x None (Some NotRecordFile) h k = absurd k
 ends_same t n x None (Some CannotRead) h k = absurd k
 ends_same t n x None (Some CannotWrite) h k = absurd k
+ends_same t n x None (Some CannotReadNorWrite) h k = absurd k
 ends_same t n x None (Some NoMemory) h k = absurd k
 ends_same t n x (Some (CutRecord at)) (Some NotRecordFile) h k = absurd k
 ends_same t n x (Some (CutRecord at)) (Some CannotRead) h k = absurd k
 ends_same t n x (Some (CutRecord at)) (Some CannotWrite) h k = absurd k
+ends_same t n x (Some (CutRecord at)) (Some CannotReadNorWrite) h k = absurd k
 ends_same t n x (Some (CutRecord at)) (Some NoMemory) h k = absurd k
 ends_same t n x (Some (RecordTooLong at)) (Some NotRecordFile) h k = absurd k
 ends_same t n x (Some (RecordTooLong at)) (Some CannotRead) h k = absurd k
 ends_same t n x (Some (RecordTooLong at)) (Some CannotWrite) h k = absurd k
+ends_same t n x (Some (RecordTooLong at)) (Some CannotReadNorWrite) h k = absurd k
 ends_same t n x (Some (RecordTooLong at)) (Some NoMemory) h k = absurd k
 ends_same t n x (Some TooManyRecords) (Some NotRecordFile) h k = absurd k
 ends_same t n x (Some TooManyRecords) (Some CannotRead) h k = absurd k
 ends_same t n x (Some TooManyRecords) (Some CannotWrite) h k = absurd k
+ends_same t n x (Some TooManyRecords) (Some CannotReadNorWrite) h k = absurd k
 ends_same t n x (Some TooManyRecords) (Some NoMemory) h k = absurd k
 
 -- and one format

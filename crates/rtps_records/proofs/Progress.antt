@@ -5,12 +5,12 @@ use Rattle.std.proofs.lemmas.Grind.{flat_map-append}
 use Rattle.std.specs.Io.KnownBytes.{Appends, Consumes, IsAtEnd}
 use Rattle.std.proofs.KnownBytes.{Consumes-trans, Appends-trans, Appends-nil, Appends-kept, Keeps-refl}
 use Rattle.rtps_records.specs.declared.fault.RunFault.{RunFault}
-use Rattle.rtps_records.specs.declared.fault.RunFault.TheVariants.{CannotRead, NotRecordFile, CutRecord, RecordTooLong, TooManyRecords, CannotWrite, NoMemory}
+use Rattle.rtps_records.specs.declared.fault.RunFault.TheVariants.{CannotRead, NotRecordFile, CutRecord, RecordTooLong, TooManyRecords, CannotWrite, CannotReadNorWrite, NoMemory}
 use Rattle.rtps_records.specs.declared.format.Format.{Format}
 use Rattle.rtps_records.specs.RecordFile.{Record, magic_of, frame, Holds, EndsBy, IsOther, IsRecord, IsPartial, FaultHere, FaultFirst, Reads}
 use Rattle.rtps_records.specs.Text.{IsFront, Says, Ends}
 use Rattle.rtps_records.proofs.OneReading.{one_reading, reading_goes_on}
-use Rattle.rtps_records.specs.Runs.{IsFrontOf, WroteAll, WroteRead, WroteFront, WroteReadFront, PutsFront, Stops, Closes, ClosesNot}
+use Rattle.rtps_records.specs.Runs.{IsFrontOf, WroteAll, WroteRead, WroteFront, WroteReadFront, PutsFront, Stops, Closes, ClosesNot, fault_after}
 
 -- the octets of a file that begins with these records
 abbrev file_of : Format → List Record → List ℕ
@@ -124,6 +124,7 @@ stops_here format text (CutRecord at) before now after old new n p h = faulted f
 stops_here format text (RecordTooLong at) before now after old new n p h = faulted format text before now old new n (RecordTooLong at) p h
 stops_here format text TooManyRecords before now after old new n p h = faulted format text before now old new n TooManyRecords p h
 stops_here format text CannotWrite before now after old new n p h = absurd h
+stops_here format text CannotReadNorWrite before now after old new n p h = absurd h
 stops_here format text NoMemory before now after old new n p h = absurd h
 
 -- the run stops before the records
@@ -135,6 +136,7 @@ stops_first text (CutRecord at) before after old h = absurd h
 stops_first text (RecordTooLong at) before after old h = absurd h
 stops_first text TooManyRecords before after old h = absurd h
 stops_first text CannotWrite before after old h = absurd h
+stops_first text CannotReadNorWrite before after old h = absurd h
 stops_first text NoMemory before after old h = absurd h
 
 -- nothing was read or written
@@ -200,7 +202,7 @@ pub stops_printing : (format : Format) (said : List Record → List ℕ → Type
 unfolding Stops
 stops_printing format said text whole before now after old mid new n kept fault few cause put p fronts same =
     let front = put_front format said text whole before now old mid new n kept few p fronts same put in
-    elim cause [ inl cannot ↦ rw cannot (inl front) | inr none ↦ rw none front ]
+    elim cause [ inl cannot ↦ rw cannot front | inr none ↦ rw none front ]
 
 -- how the reading of an input ended, of which n records were read: at its end, or at a fault
 abbrev pub EndsHere : Format → Option RunFault → ℕ → Option (List ℕ) → Option (List ℕ) → Type 0
@@ -229,31 +231,32 @@ front_of_these whole (Some input) records end put reads front = record {
 }
 
 -- a front of the text of the records that were read was written, and so is what is left of them
-wrote_at_end : (format : Format) (whole : List Record → List ℕ) (before now after old new : Option (List ℕ)) (records : List Record) (put : List ℕ) (end : Option RunFault)
+pub wrote_at_end : (format : Format) (whole : List Record → List ℕ) (before now after old new : Option (List ℕ)) (records : List Record) (put : List ℕ) (end : Option RunFault)
     → Consumes before now (file_of format records) → AllByRecursion (IsRecord format) records → EndsHere format end (length records) now after → IsFront put (whole records) → Appends old new put
-    → WroteFront whole before old new ⊎ WroteReadFront whole before after old new
-unfolding WroteFront WroteReadFront
+    → Stops whole (fault_after CannotWrite end) before after old new
+unfolding Stops WroteFront WroteReadFront
 wrote_at_end format whole before now after old new records put None read each ends front wrote =
-    inl (put, wrote, front_of_these whole before records None put (reads_all format before now records None read each (at_end format now (length records) ends.0 ends.1)) front)
-wrote_at_end format whole before now after old new records put (Some CannotRead) read each ends front wrote = inr (
+    (put, wrote, front_of_these whole before records None put (reads_all format before now records None read each (at_end format now (length records) ends.0 ends.1)) front)
+wrote_at_end format whole before now after old new records put (Some CannotRead) read each ends front wrote = (
   file_of format records ++ ends.0,
   Consumes-trans _ _ _ _ _ read ends.1,
   (format, records, ends.0, put, record { whole = append_assoc (magic_of format) (flat_map (frame format) records) ends.0; each = each }, ends.2, front, wrote),
 )
 wrote_at_end format whole before now after old new records put (Some (CutRecord at)) read each ends front wrote =
-    inl (put, wrote, front_of_these whole before records (Some (CutRecord at)) put (reads_all format before now records (Some (CutRecord at)) read each ends) front)
+    (put, wrote, front_of_these whole before records (Some (CutRecord at)) put (reads_all format before now records (Some (CutRecord at)) read each ends) front)
 wrote_at_end format whole before now after old new records put (Some (RecordTooLong at)) read each ends front wrote =
-    inl (put, wrote, front_of_these whole before records (Some (RecordTooLong at)) put (reads_all format before now records (Some (RecordTooLong at)) read each ends) front)
+    (put, wrote, front_of_these whole before records (Some (RecordTooLong at)) put (reads_all format before now records (Some (RecordTooLong at)) read each ends) front)
 wrote_at_end format whole before now after old new records put (Some TooManyRecords) read each ends front wrote =
-    inl (put, wrote, front_of_these whole before records (Some TooManyRecords) put (reads_all format before now records (Some TooManyRecords) read each ends) front)
+    (put, wrote, front_of_these whole before records (Some TooManyRecords) put (reads_all format before now records (Some TooManyRecords) read each ends) front)
 wrote_at_end format whole before now after old new records put (Some NotRecordFile) read each ends front wrote = absurd ends
 wrote_at_end format whole before now after old new records put (Some CannotWrite) read each ends front wrote = absurd ends
+wrote_at_end format whole before now after old new records put (Some CannotReadNorWrite) read each ends front wrote = absurd ends
 wrote_at_end format whole before now after old new records put (Some NoMemory) read each ends front wrote = absurd ends
 
 -- the run stops at its last text
 pub stops_closing : (format : Format) (said : List Record → List ℕ → Type 0) (text whole : List Record → List ℕ) (before now after old mid new : Option (List ℕ)) (n : ℕ) (kept : List ℕ) (end : Option RunFault) (fault : RunFault)
     → n ≤ 4294967295 → EndsHere format end n now after → Progress format said before now old mid n kept → SaidIsFront said text → ((records : List Record) → text records ≡ whole records) → ClosesNot fault said text mid new kept
-    → Stops whole fault before after old new
+    → Stops whole (fault_after fault end) before after old new
 unfolding Stops ClosesNot
 stops_closing format said text whole before now after old mid new n kept end fault few ends p fronts same c = elim c [
   | inl none ↦

@@ -8,7 +8,7 @@ use Rattle.std.proofs.KnownBytes.{Consumes-trans}
 use Rattle.rtps_records.specs.Parts.{FaultInside}
 use Rattle.rtps_records.specs.RecordFile.{EndsBy, FaultHere, IsCut, IsOther, IsShort, magic_of, octets_after, stamp, stated_length, tick_length}
 use Rattle.rtps_records.specs.declared.fault.RunFault.{RunFault}
-use Rattle.rtps_records.specs.declared.fault.RunFault.TheVariants.{CannotRead, NotRecordFile, CutRecord, RecordTooLong, TooManyRecords, CannotWrite, NoMemory}
+use Rattle.rtps_records.specs.declared.fault.RunFault.TheVariants.{CannotRead, NotRecordFile, CutRecord, RecordTooLong, TooManyRecords, CannotWrite, CannotReadNorWrite, NoMemory}
 use Rattle.rtps_records.specs.declared.format.Format.{Format}
 use Rattle.rtps_records.specs.declared.format.Format.TheVariants.{Rdg1, Rdg2}
 
@@ -45,6 +45,7 @@ inside format NotRecordFile a b c number stated n asked front below fits after w
 inside format (RecordTooLong at) a b c number stated n asked front below fits after within read h = absurd h
 inside format TooManyRecords a b c number stated n asked front below fits after within read h = absurd h
 inside format CannotWrite a b c number stated n asked front below fits after within read h = absurd h
+inside format CannotReadNorWrite a b c number stated n asked front below fits after within read h = absurd h
 inside format NoMemory a b c number stated n asked front below fits after within read h = absurd h
 
 small : (stated : ℕ) → stated ≤ 65507 → nat_le stated 65507 ≡ true

@@ -1,5 +1,5 @@
 -- The records of a batch, and the result of reading a batch.
-use Rattle.std.specs.Prelude.{◌≡◌, ℕ, ◌+◌, ◌<◌, ◌≤◌, ◌⊎◌, List, ◌++◌, Option, length, option_map, option_to_list}
+use Rattle.std.specs.Prelude.{◌≡◌, ℕ, ◌+◌, ◌<◌, ◌≤◌, ◌⊎◌, List, ◌++◌, Option, Some, None, length, option_map, option_to_list}
 use Rattle.std.specs.Io.KnownBytes.{Consumes, IsAtEnd}
 use Rattle.std.specs.List.{AllByRecursion, flat_map}
 use Rattle.rtps_types.specs.declared.datagram.Datagram as types
@@ -8,6 +8,7 @@ use Rattle.rtps_records.specs.Cuts.{cut}
 use Rattle.rtps_records.specs.declared.batch.Batch.{Batch}
 use Rattle.rtps_records.specs.declared.batch_end.BatchEnd.{BatchEnd}
 use Rattle.rtps_records.specs.declared.batch_end.BatchEnd.TheVariants.{End, Fault, More, Tick as ATick}
+use Rattle.rtps_records.specs.declared.fault.RunFault.{RunFault}
 use Rattle.rtps_records.specs.declared.format.Format.{Format}
 
 -- the datagrams of a batch
@@ -32,6 +33,13 @@ ticks_in More = 0
 ticks_in (ATick moment) = 1
 ticks_in End = 0
 ticks_in (Fault fault) = 0
+
+-- the fault that a batch ends with, if there is one
+abbrev pub fault_in : BatchEnd → Option RunFault
+fault_in More = None
+fault_in (ATick moment) = None
+fault_in End = None
+fault_in (Fault fault) = Some fault
 
 -- What follows m records: more of the file, which was not read; a tick, which was read; the end; or
 -- the first fault. A batch after which more may follow has at least one record.

@@ -2,7 +2,7 @@
 use Rattle.std.specs.Prelude.{ℕ, List, ◌++◌, codes}
 use Rattle.std.specs.Fmt.{decimal}
 use Rattle.rtps_records.specs.declared.fault.RunFault.{RunFault}
-use Rattle.rtps_records.specs.declared.fault.RunFault.TheVariants.{CannotRead, NotRecordFile, CutRecord, RecordTooLong, TooManyRecords, CannotWrite, NoMemory}
+use Rattle.rtps_records.specs.declared.fault.RunFault.TheVariants.{CannotRead, NotRecordFile, CutRecord, RecordTooLong, TooManyRecords, CannotWrite, CannotReadNorWrite, NoMemory}
 
 -- the message of a fault
 abbrev pub fault_text : RunFault → List ℕ
@@ -12,4 +12,5 @@ fault_text (CutRecord n) = codes "cut record " ++ decimal n
 fault_text (RecordTooLong n) = codes "record " ++ (decimal n ++ codes " too long")
 fault_text TooManyRecords = codes "too many records"
 fault_text CannotWrite = codes "cannot write"
+fault_text CannotReadNorWrite = codes "cannot write"
 fault_text NoMemory = codes "out of memory"

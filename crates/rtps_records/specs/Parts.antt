@@ -2,7 +2,7 @@
 use Rattle.std.specs.Prelude.{◌≡◌, ℕ, ◌<◌, List, length, Option}
 use Rattle.std.specs.Io.KnownBytes.{Consumes, IsAtEnd}
 use Rattle.rtps_records.specs.declared.fault.RunFault.{RunFault}
-use Rattle.rtps_records.specs.declared.fault.RunFault.TheVariants.{CannotRead, NotRecordFile, CutRecord, RecordTooLong, TooManyRecords, CannotWrite, NoMemory}
+use Rattle.rtps_records.specs.declared.fault.RunFault.TheVariants.{CannotRead, NotRecordFile, CutRecord, RecordTooLong, TooManyRecords, CannotWrite, CannotReadNorWrite, NoMemory}
 
 -- fewer octets than asked for were taken
 abbrev pub TakesFewer : ℕ → Option (List ℕ) → Option (List ℕ) → Type 0
@@ -18,4 +18,5 @@ FaultInside NotRecordFile n asked before after = ⊥
 FaultInside (RecordTooLong at) n asked before after = ⊥
 FaultInside TooManyRecords n asked before after = ⊥
 FaultInside CannotWrite n asked before after = ⊥
+FaultInside CannotReadNorWrite n asked before after = ⊥
 FaultInside NoMemory n asked before after = ⊥

@@ -6,7 +6,7 @@ use Rattle.std.specs.Io.KnownBytes.{Consumes}
 use Rattle.std.specs.List.{flat_map, AllByRecursion}
 use Rattle.std.specs.Int.{w32, w64, to_be_bytes, from_be_bytes}
 use Rattle.rtps_records.specs.declared.fault.RunFault.{RunFault}
-use Rattle.rtps_records.specs.declared.fault.RunFault.TheVariants.{CannotRead, NotRecordFile, CutRecord, RecordTooLong, TooManyRecords, CannotWrite, NoMemory}
+use Rattle.rtps_records.specs.declared.fault.RunFault.TheVariants.{CannotRead, NotRecordFile, CutRecord, RecordTooLong, TooManyRecords, CannotWrite, CannotReadNorWrite, NoMemory}
 use Rattle.rtps_records.specs.declared.format.Format.{Format}
 use Rattle.rtps_records.specs.declared.format.Format.TheVariants.{Rdg1, Rdg2}
 
@@ -89,6 +89,7 @@ EndsBy format (Some TooManyRecords) n rest = (n ≡ 4294967295) × (0 < length r
 EndsBy format (Some NotRecordFile) n rest = ⊥
 EndsBy format (Some CannotRead) n rest = ⊥
 EndsBy format (Some CannotWrite) n rest = ⊥
+EndsBy format (Some CannotReadNorWrite) n rest = ⊥
 EndsBy format (Some NoMemory) n rest = ⊥
 
 -- the octets are these records, followed by a rest
@@ -122,6 +123,7 @@ FaultFirst (CutRecord at) before after = ⊥
 FaultFirst (RecordTooLong at) before after = ⊥
 FaultFirst TooManyRecords before after = ⊥
 FaultFirst CannotWrite before after = ⊥
+FaultFirst CannotReadNorWrite before after = ⊥
 FaultFirst NoMemory before after = ⊥
 
 -- the fault after n records
@@ -136,6 +138,7 @@ FaultHere format (RecordTooLong at) n before after =
 FaultHere format TooManyRecords n before after =
     IfSome before (EndsBy format (Some TooManyRecords) n)
 FaultHere format CannotWrite n before after = ⊥
+FaultHere format CannotReadNorWrite n before after = ⊥
 FaultHere format NoMemory n before after = ⊥
 
 -- octets have at most one reading

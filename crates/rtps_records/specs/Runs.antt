@@ -3,7 +3,7 @@
 use Rattle.std.specs.Prelude.{◌≡◌, ℕ, ◌<◌, ◌≤◌, List, [], ◌++◌, ◌⊎◌, length, take, Option, Some, IfSome}
 use Rattle.std.specs.Io.KnownBytes.{Appends, Consumes, Keeps}
 use Rattle.rtps_records.specs.declared.fault.RunFault.{RunFault}
-use Rattle.rtps_records.specs.declared.fault.RunFault.TheVariants.{CannotRead, NotRecordFile, CutRecord, RecordTooLong, TooManyRecords, CannotWrite, NoMemory}
+use Rattle.rtps_records.specs.declared.fault.RunFault.TheVariants.{CannotRead, NotRecordFile, CutRecord, RecordTooLong, TooManyRecords, CannotWrite, CannotReadNorWrite, NoMemory}
 use Rattle.rtps_records.specs.RecordFile.{Holds, IsOther, IsPartial, Reads, Record}
 use Rattle.rtps_records.specs.declared.format.Format.{Format}
 use Rattle.rtps_records.specs.Text.{IsFront}
@@ -51,14 +51,19 @@ WroteReadFront text before after old new =
     × Holds format taken records rest × IsPartial format (length records) rest
     × IsFront put (text records) × Appends old new put)
 
--- the effect of a run that stops at a fault; a write fault that follows a read fault is reported in
--- its place
+-- the fault of a run that met a fault while it wrote its last text, where its reading had ended in
+-- this way: a write that fails after a read did is a fault of its own
+abbrev pub fault_after : RunFault → Option RunFault → RunFault
+fault_after CannotWrite (Some CannotRead) = CannotReadNorWrite
+fault_after fault end = fault
+
+-- the effect of a run that stops at a fault
 unfoldable pub Stops : (List Record → List ℕ) → RunFault → Option (List ℕ) → Option (List ℕ)
     → Option (List ℕ) → Option (List ℕ) → Type 0
 Stops text NotRecordFile before after old new = IfSome before IsOther × Keeps old new
 Stops text CannotRead before after old new = WroteRead text before after old new
-Stops text CannotWrite before after old new =
-    WroteFront text before old new ⊎ WroteReadFront text before after old new
+Stops text CannotWrite before after old new = WroteFront text before old new
+Stops text CannotReadNorWrite before after old new = WroteReadFront text before after old new
 Stops text NoMemory before after old new = WroteFront text before old new
 Stops text (CutRecord n) before after old new = WroteAll text before old new (Some (CutRecord n))
 Stops text (RecordTooLong n) before after old new =

@@ -1,9 +1,12 @@
 //! Why a run over a record file ends early.
 
 ghost use Rattle.std.specs.Prelude.{◌≡◌, Some};
+ghost use Rattle.rtps_records.specs.Batches.{fault_in};
 ghost use Rattle.rtps_records.specs.Faults.{fault_text};
+ghost use Rattle.rtps_records.specs.Runs.{fault_after};
 ghost use Rattle.rtps_records.specs.declared.fault.RunFault.TheVariants.{NoMemory};
 
+use crate::batch_end::BatchEnd;
 use std::alloc::AllocError;
 use std::fmt;
 use thiserror::Error;
@@ -23,8 +26,26 @@ pub enum RunFault {
     TooManyRecords,
     /// A write failed, or wrote nothing.
     CannotWrite,
+    /// A read failed, and then a write of the text of what was read before. Its message is that of
+    /// [`RunFault::CannotWrite`].
+    CannotReadNorWrite,
     /// Out of memory.
     NoMemory,
+}
+
+impl RunFault {
+    /// The fault of a run that met this one while it wrote its last text, after its reading had
+    /// ended in that way.
+    pub fn after(self, end: BatchEnd) -> RunFault
+        ensures { result ≡ fault_after self (fault_in end) }
+    {
+        match (self, end) {
+            (RunFault::CannotWrite, BatchEnd::Fault(RunFault::CannotRead)) => {
+                RunFault::CannotReadNorWrite
+            }
+            (fault, _) => fault,
+        }
+    }
 }
 
 impl From<AllocError> for RunFault {
@@ -45,7 +66,7 @@ impl fmt::Display for RunFault {
             RunFault::CutRecord(number) => write!(f, "cut record {number}"),
             RunFault::RecordTooLong(number) => write!(f, "record {number} too long"),
             RunFault::TooManyRecords => write!(f, "too many records"),
-            RunFault::CannotWrite => write!(f, "cannot write"),
+            RunFault::CannotWrite | RunFault::CannotReadNorWrite => write!(f, "cannot write"),
             RunFault::NoMemory => write!(f, "out of memory"),
         }
     }

@@ -1,8 +1,8 @@
 -- A run and its text, after one more batch.
-use Rattle.std.proofs.Common.{◌≡◌, ℕ, ◌+◌, ◌*◌, ◌<◌, ◌≤◌, ◌-◌, true, false, List, [], ◌∷◌, ◌++◌, ◌≢◌, Option, Some, None, Result, Ok, Err, OnOk, arith, refl, subst, sym, ap, ◌∙◌, map, length, append-nil, take}
+use Rattle.std.proofs.Common.{◌≡◌, ℕ, ◌+◌, ◌*◌, ◌<◌, ◌≤◌, ◌-◌, true, false, List, ◌++◌, ◌≢◌, Option, Result, Ok, Err, OnOk, arith, refl, subst, sym, ap, ◌∙◌, length, take}
 use Rattle.std.proofs.lemmas.Grind.{flat_map-append}
 use Rattle.std.specs.Io.KnownBytes.{IsAtEnd}
-use Rattle.rtps_records.specs.Batches.{EndsBatch, ticks_in}
+use Rattle.rtps_records.specs.Batches.{EndsBatch, fault_in, ticks_in}
 use Rattle.std.proofs.lemmas.List.{map-append}
 use Rattle.rtps_records.specs.RecordFile.{Record}
 use Rattle.rtps_records.specs.declared.batch_end.BatchEnd.{BatchEnd}
@@ -107,13 +107,6 @@ moved_front old new octets left m = (
   subst (Appends old new)
       (sym (ap (take (length m.0)) m.2 ∙ take-append_seam m.0 left)) m.1,
 )
-
--- the fault that a batch ends with, if there is one
-abbrev pub fault_in : BatchEnd → Option RunFault
-fault_in More = None
-fault_in (Tick moment) = None
-fault_in End = None
-fault_in (Fault fault) = Some fault
 
 pub ends_here : (format : Format) (end : BatchEnd) (m : ℕ) (records : List Record)
     (here after : Option (List ℕ)) → goes_on end ≡ false → m ≤ 4294967295

@@ -1,16 +1,15 @@
 -- A run over a file: one more batch, and how it ends.
-use Rattle.std.proofs.Common.{◌≡◌, ℕ, ◌+◌, ◌≤◌, ◌⊎◌, arith, List, [], ◌++◌, Bool, true, false, Option, refl, subst, sym, ap, ◌∙◌, length, take, inl, inr, append-nil}
+use Rattle.std.proofs.Common.{◌≡◌, ℕ, ◌+◌, ◌≤◌, ◌⊎◌, arith, List, [], ◌++◌, Bool, true, false, Option, Some, None, refl, subst, sym, ap, ◌∙◌, length, inl, inr, append-nil}
 use Rattle.std.specs.Io.KnownBytes.{Appends}
 use Rattle.std.proofs.KnownBytes.{Appends-nil, Appends-trans}
-use Rattle.std.proofs.Math.Seq.{take-append_seam}
 use Rattle.rtps_records.specs.Batches.{EndsBatch, ReadsBatch}
-use Rattle.rtps_records.specs.Runs.{ClosesNot, PutsFront, Stops, WroteFront, WroteReadFront}
+use Rattle.rtps_records.specs.Runs.{Stops, WroteFront, WroteReadFront, fault_after}
 use Rattle.rtps_records.specs.Text.{IsFront, Says}
 use Rattle.rtps_records.specs.declared.batch_end.BatchEnd.{BatchEnd}
 use Rattle.rtps_records.specs.declared.fault.RunFault.{RunFault}
 use Rattle.rtps_records.specs.declared.format.Format.{Format}
-use Rattle.rtps_records.specs.declared.fault.RunFault.TheVariants.{CannotWrite, NoMemory}
-use Rattle.rtps_records.proofs.Progress.{EndsHere, Finished, Progress, many_more, stops_closing, stops_printing}
+use Rattle.rtps_records.specs.declared.fault.RunFault.TheVariants.{CannotRead, NotRecordFile, CutRecord, RecordTooLong, TooManyRecords, CannotWrite, CannotReadNorWrite, NoMemory}
+use Rattle.rtps_records.proofs.Progress.{EndsHere, Finished, Progress, many_more, stops_printing, wrote_at_end}
 use Rattle.rtps_text.specs.Ahead.{Ended, ReadsAhead}
 use Rattle.rtps_text.specs.Caches.{StopsLate}
 use Rattle.rtps_text.specs.Taken.{ComesLast, Finishes, FinishesFront, StopsBy, Takes, TakesFront}
@@ -114,53 +113,53 @@ all_written format said text whole file now old new newer n kept p same t =
 -- a prefix of the text of all records was written
 front_at_end : (format : Format) (said : List Record → List ℕ → Type 0) (whole : List Record → List ℕ) (file now after old new newer : Option (List ℕ)) (n : ℕ) (kept put : List ℕ) (end : Option RunFault)
     → n ≤ 4294967295 → EndsHere format end n now after → (p : Progress format said file now old new n kept) → Appends new newer put → IsFront (p.written ++ put) (whole p.records)
-    → WroteFront whole file old newer ⊎ WroteReadFront whole file after old newer
-unfolding Stops ClosesNot
+    → Stops whole (fault_after CannotWrite end) file after old newer
 front_at_end format said whole file now after old new newer n kept put end few ends p wrote front =
-    let these = p.records in
-    let words = p.written ++ put in
-    let start : Progress format (AreRead these []) file now old old n [] = record {
-      records = these;
-      written = [];
-      count = p.count;
-      each = p.each;
-      read = p.read;
-      wrote = Appends-nil old;
-      says = (refl, refl);
-    } in
-    let all : PutsFront old newer (whole these) = (
-      length words,
-      subst (Appends old newer) (sym (ap (take (length words)) front.1 ∙ take-append_seam words front.0)) (Appends-trans _ _ _ _ _ p.wrote wrote),
-    ) in
-    stops_closing format (AreRead these []) whole whole file now after old old newer n [] end CannotWrite few ends start
-    (λ records more said s. (whole (records ++ more), ap (λ w. w ++ whole (records ++ more)) (sym s.1))) (λ records. refl)
-    (inr (refl, (whole these, all, λ records written s. ap whole s.0 ∙ ap (λ w. w ++ whole these) (sym (sym (append-nil written) ∙ s.1)))))
+    wrote_at_end format whole file now after old newer p.records (p.written ++ put) end p.read p.each
+    (subst (λ k. EndsHere format end k now after) (sym p.count) ends) front (Appends-trans _ _ _ _ _ p.wrote wrote)
 
-of_front : (is_late : Bool) (whole : List Record → List ℕ) (fault : RunFault) (file after old new : Option (List ℕ)) → ComesLast is_late fault
-    → WroteFront whole file old new ⊎ WroteReadFront whole file after old new → StopsBy is_late whole fault file after old new
-unfolding Stops StopsLate StopsBy
-of_front is_late whole fault file after old new cause both = elim cause [
-  | inl cannot ↦ subst (λ f. StopsBy is_late whole f file after old new) (sym cannot) (cannot_write is_late)
-  | inr none ↦ subst (λ f. StopsBy is_late whole f file after old new) (sym none.0) (subst (λ l. StopsBy l whole NoMemory file after old new) (sym none.1) both)
+-- where a write failed, a prefix was written of the text of the whole input, or of what was read
+front_or_read : (whole : List Record → List ℕ) (end : Option RunFault) (file after old new : Option (List ℕ)) → Stops whole (fault_after CannotWrite end) file after old new
+    → WroteFront whole file old new ⊎ WroteReadFront whole file after old new
+unfolding Stops
+front_or_read whole None file after old new h = inl h
+front_or_read whole (Some CannotRead) file after old new h = inr h
+front_or_read whole (Some NotRecordFile) file after old new h = inl h
+front_or_read whole (Some (CutRecord n)) file after old new h = inl h
+front_or_read whole (Some (RecordTooLong n)) file after old new h = inl h
+front_or_read whole (Some TooManyRecords) file after old new h = inl h
+front_or_read whole (Some CannotWrite) file after old new h = inl h
+front_or_read whole (Some CannotReadNorWrite) file after old new h = inl h
+front_or_read whole (Some NoMemory) file after old new h = inl h
+
+of_front : (is_late : Bool) (whole : List Record → List ℕ) (fault : RunFault) (end : Option RunFault) (file after old new : Option (List ℕ)) → ComesLast is_late fault
+    → Stops whole (fault_after CannotWrite end) file after old new → StopsBy is_late whole (fault_after fault end) file after old new
+unfolding StopsLate StopsBy
+of_front is_late whole fault end file after old new cause stops = elim cause [
+  | inl cannot ↦ subst (λ f. StopsBy is_late whole (fault_after f end) file after old new) (sym cannot) (stops_by is_late whole (fault_after CannotWrite end) file after old new stops)
+  | inr none ↦ subst (λ f. StopsBy is_late whole (fault_after f end) file after old new) (sym none.0)
+      (subst (λ l. StopsBy l whole NoMemory file after old new) (sym none.1) (front_or_read whole end file after old new stops))
 ]
-  where
-    cannot_write : (l : Bool) → StopsBy l whole CannotWrite file after old new
-    cannot_write false = both
-    cannot_write true = both
 
 -- a run stops if the last text is not written completely
 pub stops_finishing : (format : Format) (late_now is_late : Bool) → late_now ≡ is_late → (said : List Record → List ℕ → Type 0) (text whole : List Record → List ℕ) (file now after old new newer : Option (List ℕ)) (n : ℕ) (kept : List ℕ) (end : Option RunFault) (fault : RunFault)
     → n ≤ 4294967295 → EndsHere format end n now after → (fault ≡ CannotWrite) ⊎ (fault ≡ NoMemory) → Progress format said file now old new n kept → ((records : List Record) → text records ≡ whole records)
-    → FinishesFront late_now fault said text new newer kept → StopsBy is_late whole fault file after old newer
+    → FinishesFront late_now fault said text new newer kept → StopsBy is_late whole (fault_after fault end) file after old newer
 unfolding FinishesFront
 stops_finishing format late_now is_late alike said text whole file now after old new newer n kept end fault few ends cause p same t =
     let s = t p.records p.written p.says in
+    let by : RunFault → Type 0 = λ f. StopsBy is_late whole (fault_after f end) file after old newer in
+    let at_end = front_at_end format said whole file now after old new newer n kept s.0 end few ends p s.1 in
     elim s.2 [
-      | inl begins ↦
-          stops_by is_late whole fault file after old newer (stops_begun format said text whole file now after old new newer n kept s.0 fault few cause p same s.1 begins)
+      | inl begins ↦ elim cause [
+        | inl cannot ↦
+            let front = subst (λ l. IsFront (p.written ++ s.0) (text l)) (append-nil p.records) (begins []) in
+            subst by (sym cannot) (stops_by is_late whole (fault_after CannotWrite end) file after old newer (at_end (subst (IsFront (p.written ++ s.0)) (same p.records) front)))
+        | inr none ↦
+            subst by (sym none) (stops_by is_late whole NoMemory file after old newer (stops_begun format said text whole file now after old new newer n kept s.0 NoMemory few (inr refl) p same s.1 begins))
+      ]
       | inr front ↦
-          of_front is_late whole fault file after old newer (subst (λ l. ComesLast l fault) alike front.0)
-          (front_at_end format said whole file now after old new newer n kept s.0 end few ends p s.1 (subst (IsFront (p.written ++ s.0)) (same p.records) front.1))
+          of_front is_late whole fault end file after old newer (subst (λ l. ComesLast l fault) alike front.0) (at_end (subst (IsFront (p.written ++ s.0)) (same p.records) front.1))
     ]
 
 -- ---- batches that are read ahead

@@ -6,7 +6,7 @@ use Rattle.std.proofs.lemmas.List.{map-append}
 use Rattle.std.proofs.lemmas.List.Elements.{All-get_or}
 use Rattle.rtps_records.specs.Runs.{Moves, PutsFront, Stops}
 use Rattle.rtps_records.specs.declared.fault.RunFault.{RunFault}
-use Rattle.rtps_records.specs.declared.fault.RunFault.TheVariants.{CannotRead, NotRecordFile, CutRecord, RecordTooLong, TooManyRecords, CannotWrite, NoMemory}
+use Rattle.rtps_records.specs.declared.fault.RunFault.TheVariants.{CannotRead, NotRecordFile, CutRecord, RecordTooLong, TooManyRecords, CannotWrite, CannotReadNorWrite, NoMemory}
 use Rattle.dds_topic.specs.Decoding.{Decoding}
 use Rattle.dds_cache.specs.Standing as shelf
 use Rattle.dds_cache.specs.Standing.{CacheView}
@@ -157,6 +157,7 @@ unfolding Stops StopsLate
 late text NotRecordFile before after old new h = h
 late text CannotRead before after old new h = h
 late text CannotWrite before after old new h = h
+late text CannotReadNorWrite before after old new h = h
 late text NoMemory before after old new h = inl h
 late text (CutRecord n) before after old new h = h
 late text (RecordTooLong n) before after old new h = h

@@ -1,6 +1,6 @@
 -- What each sink does in a step of a run over a file: it processes a batch, or stops; and it
 -- finishes its text, or stops.
-use Rattle.std.proofs.Common.{◌≡◌, ℕ, ◌+◌, ◌⊎◌, List, [], ◌∷◌, ◌++◌, Bool, Option, None, Result, Ok, Err, IfErr, OnErr, OnOk, refl, subst, sym, ap, ◌∙◌, length, take, drop, inl, inr, append-nil, append_assoc, take-append-drop}
+use Rattle.std.proofs.Common.{◌≡◌, ℕ, ◌⊎◌, List, [], ◌∷◌, ◌++◌, Bool, Option, None, Result, Ok, Err, IfErr, OnErr, OnOk, refl, subst, sym, ap, ◌∙◌, take, drop, inl, inr, append-nil, append_assoc, take-append-drop}
 use Rattle.std.specs.Io.KnownBytes.{Appends}
 use Rattle.std.proofs.KnownBytes.{Appends-kept, Appends-nil, Appends-trans}
 use Rattle.rtps_records.specs.Runs.{Closes, ClosesNot, Moves, PutsFront, Stops, WroteAll}

@@ -3,7 +3,7 @@ use Rattle.std.specs.Prelude.{◌≡◌, ℕ, ◌<◌, ◌⊎◌, List, [], leng
 use Rattle.std.specs.declared.alloc.Global.{Global}
 use Rattle.rtps_records.specs.Runs.{Stops, WroteFront, WroteReadFront}
 use Rattle.rtps_records.specs.declared.fault.RunFault.{RunFault}
-use Rattle.rtps_records.specs.declared.fault.RunFault.TheVariants.{CannotRead, NotRecordFile, CutRecord, RecordTooLong, TooManyRecords, CannotWrite, NoMemory}
+use Rattle.rtps_records.specs.declared.fault.RunFault.TheVariants.{NoMemory}
 use Rattle.dds_topic.specs.Decoding.{Decoding}
 use Rattle.dds_cache.specs.Calls.{Done, accepted_after}
 use Rattle.dds_cache.specs.Standing as shelf
@@ -61,16 +61,9 @@ pub record AllAccept {V : Type 0} (outputs : List (Output V Global)) (old new : 
       (slice_index_or new rank other)
 
 -- The outcome of a run that stops at a fault, if text is written while the last lines are made.
--- Memory may run out then, and a write may fail. Either may happen after a read fault too, and is
--- reported instead of it.
+-- Memory may run out then, after a read fault too, and is reported instead of it.
 unfoldable pub StopsLate : (List Record → List ℕ) → RunFault → Option (List ℕ)
     → Option (List ℕ) → Option (List ℕ) → Option (List ℕ) → Type 0
-StopsLate text NotRecordFile before after old new = Stops text NotRecordFile before after old new
-StopsLate text CannotRead before after old new = Stops text CannotRead before after old new
-StopsLate text CannotWrite before after old new = Stops text CannotWrite before after old new
 StopsLate text NoMemory before after old new =
     WroteFront text before old new ⊎ WroteReadFront text before after old new
-StopsLate text (CutRecord n) before after old new = Stops text (CutRecord n) before after old new
-StopsLate text (RecordTooLong n) before after old new =
-    Stops text (RecordTooLong n) before after old new
-StopsLate text TooManyRecords before after old new = Stops text TooManyRecords before after old new
+StopsLate text fault before after old new = Stops text fault before after old new

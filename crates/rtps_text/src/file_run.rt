@@ -74,7 +74,9 @@ where
     }
     let end = pipeline.ahead.end;
     sink = sink.take_and_read(rt, &mut pipeline, records, lines)?;
-    sink.close(&mut pipeline.ahead.text, lines)?;
+    if let Err(fault) = sink.close(&mut pipeline.ahead.text, lines) {
+        return Err(fault.after(end));
+    }
     match end {
         BatchEnd::Fault(fault) => Err(fault),
         _ => Ok(()),

@@ -92,28 +92,28 @@ pub returns-in_err-push_ending-clause-fault : goal.returns-in_err-push_ending-cl
 returns-in_err-push_ending-clause-fault g c =
     at_fault _ _ _ c.from_residual-in_err-push_ending.ensures.1 (stops_ending _ _ _ _ _ _ _ _ _ _ _ _ _ _ refl c.loop-end.invariant.so_far)
 
-pub returns-in_err-close-clause-fault : goal.returns-in_err-close-clause-fault
-returns-in_err-close-clause-fault g c =
+pub returns-in-Err-clause-fault : goal.returns-in-Err-clause-fault
+returns-in-Err-clause-fault g c =
     let not : goes_on c.loop-end.end ≡ false = search rules in
-    at_fault _ _ _ c.from_residual-in_err-close.ensures.1
-    (stops_closing_here _ _ _ _ _ _ _ _ _ _ _ _ _ _ _ not c.in_err-close.ensures.fault c.loop-end.invariant.so_far c.in_ok-push_ending.ensures c.in_err-close.ensures.front)
+    rw c.after.ensures
+    (stops_closing_here _ _ _ _ _ _ _ _ _ _ _ _ _ _ _ not c.in-Err.ensures.fault c.loop-end.invariant.so_far c.in_ok-push_ending.ensures c.in-Err.ensures.front)
 
 pub returns-in-Fault-clause-fault : goal.returns-in-Fault-clause-fault
 returns-in-Fault-clause-fault g c =
     let x = c.loop-end.invariant.so_far in
     let after = g.R.Read.remaining c.loop-end.records.reader.now in
     let format = c.loop-end.records.format in
-    let done = all_written _ _ _ _ _ _ _ _ _ _ _ _ _ _ x c.in_ok-push_ending.ensures c.in_ok-close.ensures.ok in
+    let done = all_written _ _ _ _ _ _ _ _ _ _ _ _ _ _ x c.in_ok-push_ending.ensures c.in_default.ensures.ok in
     stops_here _ _ _ _ _ _ _ _ _ done (subst (λ (b : BatchEnd). EndsBatch format b x.n x.batch x.there after) c.in-Fault.is x.ends)
 
 pub returns : goal.returns
 returns g c =
     let x = c.loop-end.invariant.so_far in
     let not : goes_on c.loop-end.end ≡ false = search rules in
-    let done = all_written _ _ _ _ _ _ _ _ _ _ _ _ _ _ x c.in_ok-push_ending.ensures c.in_ok-close.ensures.ok in
+    let done = all_written _ _ _ _ _ _ _ _ _ _ _ _ _ _ x c.in_ok-push_ending.ensures c.in_default.ensures.ok in
     record {
       same_reader = search rules;
       same_writer = search rules;
-      ok = ended _ _ _ _ _ _ _ x.few done (at_end _ _ _ _ _ _ _ _ _ _ _ _ not c.in_default.not-Fault x);
+      ok = ended _ _ _ _ _ _ _ x.few done (at_end _ _ _ _ _ _ _ _ _ _ _ _ not c.in_default-end.not-Fault x);
       fault = tt;
     }

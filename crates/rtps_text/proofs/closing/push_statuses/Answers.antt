@@ -1,4 +1,4 @@
-use Rattle.std.proofs.Common.{◌≡◌, ◌++◌, ◌<◌, ◌∙◌, append_assoc, ap, arith, length, rules}
+use Rattle.std.proofs.Common.{◌≡◌, ◌++◌, ◌∙◌, append_assoc, ap, length, rules}
 use Rattle.rtps_ascii.proofs.Kept.{still_starts}
 use Rattle.rtps_run.specs.Seen.{reader_count}
 use Rattle.rtps_text.specs.Inputs.{inputs_of, run_by}

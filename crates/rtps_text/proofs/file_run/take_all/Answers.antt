@@ -1,12 +1,12 @@
 use Rattle.std.proofs.Common.{◌≡◌, ◌∙◌, ◌∷◌, [], Global, Vec, ℕ, arith, false, refl, rules, subst, sym, true}
-use Rattle.rtps_records.specs.Batches.{EndsBatch}
+use Rattle.rtps_records.specs.Batches.{EndsBatch, fault_in}
 use Rattle.rtps_records.specs.RecordFile.{Tick}
 use Rattle.rtps_records.specs.declared.batch_end.BatchEnd.{BatchEnd}
 use Rattle.rtps_records.proofs.Faults.{at_fault}
 use Rattle.rtps_records.proofs.Progress.{ended, started, stops_at_once, stops_first, stops_here}
 use Rattle.rtps_text.specs.Ahead.{Ended, goes_on}
 use Rattle.rtps_text.specs.Sink.{IsTaken}
-use Rattle.rtps_text.proofs.Batches.{at_end, ends_here, fault_in, fewer_left}
+use Rattle.rtps_text.proofs.Batches.{at_end, ends_here, fewer_left}
 use Rattle.rtps_text.proofs.FileRun.{all_written, stops_by, stops_finishing, stops_taking, taken_last, taken_on}
 use Rattle.rtps_text.proofs.FileRun as file
 use Rattle.rtps_text.proofs.Run.{of_cause}
@@ -85,15 +85,15 @@ close-requires-clause-taken g c κs within =
     let t = taken_last _ _ _ _ _ _ _ _ _ _ _ _ _ _ inv.taking (c.take_and_read-2.ensures.still not) c.in_ok-sink-2.ensures.takes in
     (t.so_far.records, _, t.so_far.says)
 
-pub returns-in_err-close-clause-fault : goal.returns-in_err-close-clause-fault
-returns-in_err-close-clause-fault g c =
+pub returns-in-Err-clause-fault : goal.returns-in-Err-clause-fault
+returns-in-Err-clause-fault g c =
     let inv = c.loop-sink.invariant in
     let end = c.loop-sink.pipeline.ahead.end in
     let not : goes_on end ≡ false = search rules in
     let t = taken_last _ _ _ _ _ _ _ _ _ _ _ _ _ _ inv.taking (c.take_and_read-2.ensures.still not) c.in_ok-sink-2.ensures.takes in
-    at_fault _ _ _ c.from_residual-in_err-close.ensures.1
+    rw c.after.ensures
     (stops_finishing _ _ _ (c.in_ok-sink-2.ensures.late ∙ inv.late) _ _ _ _ _ _ _ _ _ _ _ (fault_in end) _ t.few (ends_here _ end _ t.batch _ _ not t.few t.ends)
-    c.in_err-close.ensures.fault t.so_far (λ those. c.in_ok-sink-2.ensures.text those ∙ inv.text those) c.in_err-close.ensures.front)
+    c.in-Err.ensures.fault t.so_far (λ those. c.in_ok-sink-2.ensures.text those ∙ inv.text those) c.in-Err.ensures.front)
 
 pub returns-in-Fault-clause-fault : goal.returns-in-Fault-clause-fault
 returns-in-Fault-clause-fault g c =
@@ -102,7 +102,7 @@ returns-in-Fault-clause-fault g c =
     let after = g.R.Read.remaining c.take_and_read-2.new.records.reader.now in
     let format = c.loop-sink.records.format in
     let t = taken_last _ _ _ _ _ _ _ _ after _ _ _ _ _ inv.taking (c.take_and_read-2.ensures.still not) c.in_ok-sink-2.ensures.takes in
-    let done = all_written _ _ _ _ _ _ _ _ _ _ _ t.so_far (λ those. c.in_ok-sink-2.ensures.text those ∙ inv.text those) c.in_ok-close.ensures.ok in
+    let done = all_written _ _ _ _ _ _ _ _ _ _ _ t.so_far (λ those. c.in_ok-sink-2.ensures.text those ∙ inv.text those) c.in_default.ensures.ok in
     stops_by _ _ _ _ _ _ _ (stops_here _ _ _ _ _ _ _ _ _ done (subst (λ (b : BatchEnd). EndsBatch format b t.n t.batch t.here after) c.in-Fault.is t.ends))
 
 pub returns : goal.returns
@@ -111,10 +111,10 @@ returns g c =
     let end = c.loop-sink.pipeline.ahead.end in
     let not : goes_on end ≡ false = search rules in
     let t = taken_last _ _ _ _ _ _ _ _ _ _ _ _ _ _ inv.taking (c.take_and_read-2.ensures.still not) c.in_ok-sink-2.ensures.takes in
-    let done = all_written _ _ _ _ _ _ _ _ _ _ _ t.so_far (λ those. c.in_ok-sink-2.ensures.text those ∙ inv.text those) c.in_ok-close.ensures.ok in
+    let done = all_written _ _ _ _ _ _ _ _ _ _ _ t.so_far (λ those. c.in_ok-sink-2.ensures.text those ∙ inv.text those) c.in_default.ensures.ok in
     record {
       same_reader = search rules;
       same_writer = search rules;
-      ok = ended _ _ _ _ _ _ _ t.few done (at_end _ end _ t.batch _ _ not c.in_default.not-Fault t.ends);
+      ok = ended _ _ _ _ _ _ _ t.few done (at_end _ end _ t.batch _ _ not c.in_default-end.not-Fault t.ends);
       fault = tt;
     }
