@@ -42,37 +42,70 @@ pub fn run<R: Threads + Wait + Net + Clock + Print + Sync>(
 ) -> Result<()> {
     // A board with the status of one reader, for one thread that looks at it.
     let mut board = StatusBoard::new(rt, host.alloc(), 1, 1)?;
-    let outcome = run_threads(rt, host, host.alloc(), &mut board);
+    let outcome = run_with_board(rt, host, &mut board);
     board.end(rt);
     outcome
 }
 
-fn run_threads<R: Threads + Wait + Net + Clock + Print + Sync>(
+fn run_with_board<R: Threads + Wait + Net + Clock + Print + Sync>(
     rt: &R,
     host: &HostRuntime,
-    alloc: Global,
     board: &mut StatusBoard,
 ) -> Result<()> {
     let Some(watch) = board.reader() else {
         bail!("no place is free at the board");
     };
-    let (outlet, mut inlet) = outlet(alloc, 64)?;
-    let peer = Peer::bind(rt)?;
-    let mut receiver = Receiver::bind(host, outlet, peer.locator()?)?;
-    let done = AtomicBool::new(false);
+    let application = Application::new(rt, host)?;
+    application.run_threads(rt, host.alloc(), board, watch)
+}
 
-    let receive = || receiver.run(rt, alloc, board, &done);
-    let show = || show_samples(rt, alloc, &mut inlet);
-    let send = || peer.send_squares();
-    let supervise = || look_until_presented(rt, watch, &done);
-    // The first three run on threads of their own, and the last one on this thread.
-    let (published, (shown, (sent, watch))) = thread::join(rt, receive, || {
-        thread::join(rt, show, || thread::join(rt, send, supervise))
-    });
-    let published = published?;
-    sent?;
-    shown?;
-    show_status(rt, watch, published)
+/// What the threads work with: the receiver, the application's end of the ring, and the peer.
+#[derive(Drop)]
+struct Application<'a> {
+    receiver: Receiver<'a>,
+    inlet: Inlet<Shape>,
+    peer: Peer,
+}
+
+impl<'a> Application<'a> {
+    fn new(net: &impl Net, host: &'a HostRuntime) -> Result<Application<'a>> {
+        let peer = Peer::bind(net)?;
+        let (outlet, inlet) = outlet(host.alloc(), 64)?;
+        let receiver = Receiver::bind(host, outlet, peer.locator()?)?;
+        Ok(Application {
+            receiver,
+            inlet,
+            peer,
+        })
+    }
+
+    fn run_threads<R: Threads + Wait + Net + Clock + Print + Sync>(
+        self,
+        rt: &R,
+        alloc: Global,
+        board: &mut StatusBoard,
+        watch: StatusReader,
+    ) -> Result<()>
+        requires { watch.board ≡ board.old.board }
+    {
+        let Application {
+            mut receiver,
+            mut inlet,
+            peer,
+        } = self;
+        let done = AtomicBool::new(false);
+        let receive = || receiver.run(rt, alloc, board, &done);
+        let show = || show_samples(rt, alloc, &mut inlet);
+        let send = || peer.send_squares();
+        let supervise = || look_until_presented(rt, watch, &done);
+        // The first three run on threads of their own, and the last one on this thread.
+        let (published, (shown, (sent, watch))) = thread::join(rt, receive, || {
+            thread::join(rt, show, || thread::join(rt, send, supervise))
+        });
+        sent?;
+        shown?;
+        show_status(rt, watch, published?)
+    }
 }
 
 /// Prints the samples as they come.
