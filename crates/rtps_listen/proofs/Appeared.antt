@@ -1,5 +1,5 @@
 -- What a participant that announces itself writes, calls and announces; and what is refused before.
-use Rattle.std.proofs.Common.{◌≡◌, ◌≢◌, ◌⊎◌, ◌∙◌, ℕ, Bool, true, false, List, Option, None, Some, Result, Ok, Err, IfErr, ap, inl, inr, refl, subst, sym}
+use Rattle.std.proofs.Common.{◌≡◌, ◌≢◌, ◌⊎◌, ◌∙◌, ℕ, Bool, true, false, List, Option, Some, Result, Ok, Err, IfErr, ap, inl, inr, refl, subst, sym}
 use Rattle.std.specs.Prelude.{IsErrAnd, MatchBool}
 use Rattle.std.specs.Str.{bytes_eq}
 use Rattle.std.proofs.KnownBytes.{Keeps-refl}
@@ -8,18 +8,17 @@ use Rattle.rtps_types.specs.declared.identity.GuidPrefix.{GuidPrefix}
 use Rattle.rtps_discovery.specs.declared.config.Config.{Config}
 use Rattle.rtps_files.specs.Prefixes.{WritesPrefix}
 use Rattle.rtps_records.specs.Speech.{HasLeft}
-use Rattle.rtps_records.specs.declared.fault.RunFault.{RunFault}
-use Rattle.rtps_records.specs.declared.fault.RunFault.TheVariants.{CannotRead, NotRecordFile, CutRecord, RecordTooLong, TooManyRecords, CannotWrite, NoMemory}
+use Rattle.rtps_records.specs.declared.fault.RunFault.TheVariants.{NoMemory}
 use Rattle.rtps_records.specs.Traffic.{Traffic}
 use Rattle.rtps_text.specs.Listened.{Limits, LiveRun, limits_of}
-use Rattle.rtps_listen.specs.Appearing.{Appears, AppearsAll, AnyTime, IsAbsent, IsAnnouncedCause, IsAnnouncedConfigOf, IsMadeAt, IsAppearCause, IsReachFault, IsSilent, RefusesReach}
+use Rattle.rtps_listen.specs.Appearing.{Appears, AnyTime, IsAbsent, IsAnnouncedCause, IsAnnouncedConfigOf, IsMadeAt, IsAppearCause, IsReachFault, IsSilent, RefusesReach}
 use Rattle.rtps_listen.specs.Configs.{IsCause, Refuses}
 use Rattle.rtps_listen.specs.Domain.{IsBefore, IsLive, IsQuiet, ListensBy, live_run_of}
 use Rattle.rtps_listen.specs.Line.{own_text}
 use Rattle.rtps_listen.specs.Networks.{Networks}
 use Rattle.rtps_listen.specs.Printed.{Prints}
 use Rattle.rtps_listen.specs.Program.{Does}
-use Rattle.rtps_listen.specs.Reaching.{IsPeersFault, IsReachCause, IsReachOf, RefusesPlaces}
+use Rattle.rtps_listen.specs.Reaching.{IsReachCause, IsReachOf, RefusesPlaces}
 use Rattle.rtps_listen.specs.Request.{RefusesFirst}
 use Rattle.rtps_listen.specs.declared.network.Station.{Station}
 use Rattle.rtps_listen.specs.declared.fault.ListenFault.{ListenFault}

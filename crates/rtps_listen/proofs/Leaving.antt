@@ -1,10 +1,10 @@
 -- A run after which memory was refused: what it left is what such a run may leave.
-use Rattle.std.proofs.Common.{◌≡◌, ◌∙◌, ◌⊎◌, ◌++◌, ℕ, List, [], Option, Result, Ok, Err, inl, inr, sym, refl}
+use Rattle.std.proofs.Common.{◌≡◌, ◌∙◌, ◌⊎◌, ℕ, List, [], Option, Result, Ok, Err, inl, inr, sym, refl}
 use Rattle.std.proofs.lemmas.List.{append-nil}
 use Rattle.rtps_records.specs.Text.{IsFront}
 use Rattle.rtps_records.specs.Traffic.{Traffic, failures_in, heard_in, sent_in}
 use Rattle.rtps_records.specs.declared.fault.RunFault.TheVariants.{CannotRead, NotRecordFile, CutRecord, RecordTooLong, TooManyRecords, CannotWrite, CannotReadNorWrite, NoMemory}
-use Rattle.rtps_text.specs.Listened.{IsDone, IsOver, Leaves, Limits, Listened, LiveRun, SentAt, WroteFrontOf}
+use Rattle.rtps_text.specs.Listened.{IsDone, IsOver, Leaves, Limits, Listened, LiveRun, SentAt}
 use Rattle.rtps_text.specs.declared.live_fault.LiveFault.{LiveFault}
 use Rattle.rtps_text.specs.declared.live_fault.LiveFault.TheVariants as live_fault
 use Rattle.rtps_listen.specs.Domain.{ListensBy}

@@ -1,6 +1,5 @@
 -- The addresses to which a participant announces itself.
-use Rattle.std.proofs.Common.{◌≡◌, ◌≤◌, ◌<◌, ◌⊎◌, ◌∙◌, ◌++◌, ◌+◌, ◌-◌, ◌==◌, ℕ, List, [], ◌∷◌, length, filter, map, take, drop, Bool, true, false, cond, Option, None, Some, Result, Ok, Err, IsErrAnd, OnOk, IfErr, MatchOption, Bor, eqb, ap, ap₂, arith, inl, inr, refl, sym, append_assoc, append-nil, zero, suc}
-use Rattle.std.specs.Prelude.{option_map}
+use Rattle.std.proofs.Common.{◌≡◌, ◌<◌, ◌⊎◌, ◌∙◌, ◌++◌, ◌+◌, ◌-◌, ℕ, List, [], ◌∷◌, length, filter, map, Bool, true, false, cond, Option, None, Some, Result, Ok, Err, IsErrAnd, OnOk, IfErr, MatchOption, Bor, eqb, ap, ap₂, arith, inl, inr, refl, sym, append_assoc, append-nil}
 use Rattle.std.specs.List.{after_first, before_first, position_or_len, range_with_len}
 use Rattle.std.proofs.lemmas.List.Elements.{filter-append}
 use Rattle.std.proofs.lemmas.List.FromFn.{map-range_with_len_more}

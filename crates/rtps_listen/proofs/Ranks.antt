@@ -3,12 +3,11 @@ use Rattle.std.proofs.Common.{◌≡◌, ◌∙◌, ℕ, ◌+◌, ◌<◌, ◌�
 use Rattle.std.specs.List.{list_any, range_with_len}
 use Rattle.std.proofs.lemmas.List.{map-append}
 use Rattle.std.proofs.lemmas.List.FromFn.{map-range_with_len_more}
-use Rattle.clap.specs.Words.{Text}
-use Rattle.dds_qos.specs.declared.policies.Reliability.{Reliability}
 use Rattle.rtps_discovery.specs.Config.{has_twice}
 use Rattle.rtps_discovery.specs.declared.config.ReaderConfig.{ReaderConfig}
 use Rattle.rtps_discovery.specs.Start.{wish_of}
 use Rattle.rtps_types.specs.declared.identity.Guid.{Guid}
+use Rattle.rtps_listen.specs.declared.options.Options.{Options}
 use Rattle.rtps_listen.specs.Configs.{match_at, match_of, matches_of, reader_of, readers_of}
 
 -- one rank more
@@ -16,11 +15,11 @@ pub ranks_more : {X : Type 0} (f : ℕ → X) (n : ℕ) → map f (range_with_le
 ranks_more f n = map-range_with_len_more f 0 n n (omega arith)
 
 -- and one reader more
-pub readers_more : (all before : List ReaderConfig) (last : ReaderConfig) (topic type_name : Text) (reliability : Reliability) (n : ℕ) → all ≡ before ++ last ∷ []
-    → map wish_of before ≡ readers_of topic type_name reliability n → wish_of last ≡ reader_of topic type_name reliability n
-    → map wish_of all ≡ readers_of topic type_name reliability (n + 1)
-readers_more all before last topic type_name reliability n more have is =
-    ap (map wish_of) more ∙ map-append wish_of before (last ∷ []) ∙ ap₂ (λ xs x. xs ++ x ∷ []) have is ∙ sym (ranks_more (reader_of topic type_name reliability) n)
+pub readers_more : (all before : List ReaderConfig) (last : ReaderConfig) (options : Options) (n : ℕ) → all ≡ before ++ last ∷ []
+    → map wish_of before ≡ readers_of options n → wish_of last ≡ reader_of options n
+    → map wish_of all ≡ readers_of options (n + 1)
+readers_more all before last options n more have is =
+    ap (map wish_of) more ∙ map-append wish_of before (last ∷ []) ∙ ap₂ (λ xs x. xs ++ x ∷ []) have is ∙ sym (ranks_more (reader_of options) n)
 
 -- and one more match of each, where there is a writer
 pub matches_more : (writer : Option Guid) (n : ℕ) → matches_of writer (n + 1) ≡ matches_of writer n ++ match_at writer n

@@ -7,11 +7,9 @@ use Rattle.std.proofs.lemmas.Bool.{lt-leb, ne_eqb}
 use Rattle.std.proofs.lemmas.Bool.Decides.{nat_tests}
 use Rattle.std.proofs.lemmas.List.{length-map}
 use Rattle.std.proofs.lemmas.List.FromFn.{length-map-range_with_len}
-use Rattle.clap.specs.Words.{Text}
 use Rattle.clap.proofs.WalkLemmas.{list_any-map}
 use Rattle.rtps_types.specs.declared.identity.Guid.{Guid}
 use Rattle.rtps_types.specs.declared.identity.GuidPrefix.{GuidPrefix}
-use Rattle.dds_qos.specs.declared.policies.Reliability.{Reliability}
 use Rattle.rtps_discovery.specs.Config.{check_of, has_fault, has_twice, is_bad_fixed, is_bad_reader, is_exclusive, is_reader, is_same_entity, is_same_pair}
 use Rattle.rtps_discovery.specs.declared.config.Config.{Config}
 use Rattle.rtps_discovery.specs.declared.config.ReaderConfig.{ReaderConfig}
@@ -19,7 +17,7 @@ use Rattle.rtps_discovery.specs.declared.faults.ConfigFault.{ConfigFault}
 use Rattle.rtps_discovery.specs.declared.faults.ConfigFault.TheVariants.{Readers, BadReader, BadFixed}
 use Rattle.rtps_discovery.specs.Known.{Wish}
 use Rattle.rtps_discovery.specs.Start.{wish_of}
-use Rattle.rtps_listen.specs.Configs.{AreWritten, IsMadeOf, IsUnmatched, is_unmatched, match_of, matches_of, reader_of, readers_of, reliability_of}
+use Rattle.rtps_listen.specs.Configs.{AreWritten, IsMadeOf, IsUnmatched, entity_of, is_unmatched, match_of, matches_of, reader_of, readers_of}
 use Rattle.rtps_listen.specs.declared.options.Options.{Options}
 use Rattle.rtps_listen.proofs.Ranks.{each_rank_passes, no_rank_passes, ranks_differ}
 use Rattle.rtps_listen.proofs.Written.{same_prefix, same_writer}
@@ -35,8 +33,8 @@ twice_shown : (rs : List ReaderConfig) → has_twice is_same_entity rs ≡ has_t
 twice_shown [] = refl
 twice_shown (r ∷ rs) = ap₂ (λ a b. a || b) (list_any-map (is_same (wish_of r)) wish_of rs) (twice_shown rs)
 
-entities_differ : (topic type_name : Text) (reliability : Reliability) (i j : ℕ) → i < j → is_same (reader_of topic type_name reliability i) (reader_of topic type_name reliability j) ≡ false
-entities_differ topic type_name reliability i j lt = rw (ne_eqb (i + 1) (j + 1) (λ e. omega arith)) refl
+entities_differ : (options : Options) (i j : ℕ) → i < j → is_same (reader_of options i) (reader_of options j) ≡ false
+entities_differ options i j lt = rw (ne_eqb (i + 1) (j + 1) (λ e. omega arith)) refl
 
 pairs_differ : (writer : Guid) (i j : ℕ) → i < j → is_same_pair (match_of writer i) (match_of writer j) ≡ false
 pairs_differ writer i j lt = rw (ne_eqb i j (λ e. omega arith)) refl
@@ -45,10 +43,18 @@ pairs_differ writer i j lt = rw (ne_eqb i j (λ e. omega arith)) refl
 few : (n : ℕ) → 1 ≤ n → n ≤ 8 → (n == 0 || nat_lt 256 n) ≡ false
 few n low high = grind (arith, nat_tests)
 
-readers_good : (topic type_name : Text) (reliability : Reliability) (rs : List ReaderConfig) (n : ℕ) → map wish_of rs ≡ readers_of topic type_name reliability n → (list_any is_bad_reader rs || has_twice is_same_entity rs) ≡ false
-readers_good topic type_name reliability rs n have =
-    let bad : list_any is_bad_reader rs ≡ false = list_any-map is_bad wish_of rs ∙ ap (list_any is_bad) have ∙ no_rank_passes is_bad (reader_of topic type_name reliability) 0 n (λ k above below. refl) in
-    let twice : has_twice is_same_entity rs ≡ false = twice_shown rs ∙ ap (has_twice is_same) have ∙ ranks_differ is_same (reader_of topic type_name reliability) 0 n (entities_differ topic type_name reliability) in
+-- each is a reader by its kind, and of shared ownership
+reader_kind : (no_key : Bool) (rank : ℕ) → is_reader (entity_of no_key rank) ≡ true
+reader_kind false rank = refl
+reader_kind true rank = refl
+
+reader_good : (options : Options) (rank : ℕ) → is_bad (reader_of options rank) ≡ false
+reader_good options rank = rw (reader_kind options.no_key rank) refl
+
+readers_good : (options : Options) (rs : List ReaderConfig) (n : ℕ) → map wish_of rs ≡ readers_of options n → (list_any is_bad_reader rs || has_twice is_same_entity rs) ≡ false
+readers_good options rs n have =
+    let bad : list_any is_bad_reader rs ≡ false = list_any-map is_bad wish_of rs ∙ ap (list_any is_bad) have ∙ no_rank_passes is_bad (reader_of options) 0 n (λ k above below. reader_good options k) in
+    let twice : has_twice is_same_entity rs ≡ false = twice_shown rs ∙ ap (has_twice is_same) have ∙ ranks_differ is_same (reader_of options) 0 n (entities_differ options) in
     ap₂ (λ a b. a || b) bad twice
 
 -- a rank that a reader has leaves the writer to be judged
@@ -75,9 +81,9 @@ unfolding answer check_of
 made_told options own writer config made =
     let n = options.readers in
     let count : length config.readers.items ≡ n =
-    sym (length-map config.readers.items wish_of) ∙ ap length made.readers ∙ length-map-range_with_len (reader_of options.topic.now options.type_name.now (reliability_of options.best_effort)) 0 n in
+    sym (length-map config.readers.items wish_of) ∙ ap length made.readers ∙ length-map-range_with_len (reader_of options) 0 n in
     let readers : has_fault Readers config ≡ false = rw count (few n options.some options.few) in
-    let bad : has_fault BadReader config ≡ false = readers_good options.topic.now options.type_name.now (reliability_of options.best_effort) config.readers.items n made.readers in
+    let bad : has_fault BadReader config ≡ false = readers_good options config.readers.items n made.readers in
     let fixed : has_fault BadFixed config ≡ is_unmatched own writer = rw (count, made.prefix, made.fixed) (fixed_fault own writer n options.some) in
     let whole : answer (has_fault Readers config) (has_fault BadReader config) (has_fault BadFixed config) ≡ told (is_unmatched own writer) = rw (readers, bad, fixed) refl in
     whole

@@ -1,5 +1,5 @@
 -- What a participant that announces itself writes, calls and announces (DDSI-RTPS 8.5.3, 8.5.4).
-use Rattle.std.specs.Prelude.{◌≡◌, ◌≢◌, ◌⊎◌, ◌++◌, ℕ, List, [], ◌∷◌, Option, None, Some, Result, Ok, Err, IsErrAnd, IsTrue, true, ⊤, MatchBool, map, slice_index}
+use Rattle.std.specs.Prelude.{◌≡◌, ◌≢◌, ◌⊎◌, ◌++◌, ℕ, List, [], ◌∷◌, Option, None, Some, Result, Err, IsErrAnd, IsTrue, true, ⊤, MatchBool, map, slice_index}
 use Rattle.std.specs.Int.{to_be_bytes, w64}
 use Rattle.std.specs.Str.{bytes_eq}
 use Rattle.std.specs.Net.Addr.{ipv4_octets}

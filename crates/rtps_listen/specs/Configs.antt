@@ -22,30 +22,34 @@ use Rattle.rtps_listen.specs.declared.options.Options.{Options}
 use Rattle.rtps_listen.specs.declared.fault.ListenFault.{ListenFault}
 use Rattle.rtps_listen.specs.declared.fault.ListenFault.TheVariants.{BadPrefix, BadWriter, Run}
 
--- the entity of the reader of a rank: readers with a key (DDSI-RTPS 9.3.1.2) that are counted
--- from 1
-abbrev pub entity_of : ℕ → EntityId
-entity_of rank = record { 0 = 0x00 ∷ 0x00 ∷ (rank + 1) ∷ 0x07 ∷ [] }
+-- the kind of a reader of a topic with a key, and with `--no-key` of one without (DDSI-RTPS 9.3.1.2)
+abbrev pub kind_of : Bool → ℕ
+kind_of false = 0x07
+kind_of true = 0x04
+
+-- the entity of the reader of a rank: readers are counted from 1
+abbrev pub entity_of : Bool → ℕ → EntityId
+entity_of no_key rank = record { 0 = 0x00 ∷ 0x00 ∷ (rank + 1) ∷ kind_of no_key ∷ [] }
 
 -- with `--best-effort` readers ask for nothing again
 abbrev pub reliability_of : Bool → Reliability
 reliability_of true = BestEffort
 reliability_of false = Reliable
 
--- the reader of a rank: it has this topic and type, and the policies that hold where none is announced
-abbrev pub reader_of : Text → Text → Reliability → ℕ → Wish
-reader_of topic type_name reliability rank = record {
-  entity = entity_of rank;
-  topic = topic;
-  type_name = type_name;
-  policies = default_policies reliability;
+-- the reader of a rank: it has this topic and type, and the policies that hold where none is
+-- announced
+abbrev pub reader_of : Options → ℕ → Wish
+reader_of options rank = record {
+  entity = entity_of options.no_key rank;
+  topic = options.topic.now;
+  type_name = options.type_name.now;
+  policies = default_policies (reliability_of options.best_effort);
   partitions = [];
 }
 
 -- n readers, by their ranks
-abbrev pub readers_of : Text → Text → Reliability → ℕ → List Wish
-readers_of topic type_name reliability count =
-    map (reader_of topic type_name reliability) (range_with_len 0 count)
+abbrev pub readers_of : Options → ℕ → List Wish
+readers_of options count = map (reader_of options) (range_with_len 0 count)
 
 -- the match of the reader of a rank, which knows no address of the writer
 abbrev pub match_of : Guid → ℕ → FixedMatch
@@ -72,9 +76,7 @@ NamesWriter (Some text) (Some writer) = WritesGuid text.now writer
 pub record IsMadeOf (options : Options) (own : GuidPrefix) (writer : Option Guid) (config : Config)
     : Type 0 where
   pub prefix : config.own ≡ own
-  pub readers : map wish_of config.readers.items
-      ≡ readers_of options.topic.now options.type_name.now (reliability_of options.best_effort)
-      options.readers
+  pub readers : map wish_of config.readers.items ≡ readers_of options options.readers
   pub fixed : config.fixed.items ≡ matches_of writer options.readers
 
 -- what the texts of options write

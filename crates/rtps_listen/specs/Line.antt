@@ -85,6 +85,10 @@ fixed_rule = record (new_rule (codes "fixed")) { value_names = 1; long = Some (c
 abbrev pub flag_rule : List ℕ → Rule
 flag_rule name = record (new_rule name) { long = Some name; action = Some SetTrue }
 
+-- `--no-key`
+abbrev pub no_key_rule : Rule
+no_key_rule = flag_rule (codes "no-key")
+
 -- `--best-effort`
 abbrev pub best_effort_rule : Rule
 best_effort_rule = flag_rule (codes "best-effort")
@@ -182,7 +186,8 @@ with_names a = with_rule (with_rule (with_rule (with_rule a topic_rule) type_rul
 
 -- the flags
 unfoldable pub with_flags : App → App
-with_flags a = with_rule (with_rule (with_rule a best_effort_rule) raw_rule) summary_rule
+with_flags a =
+    with_rule (with_rule (with_rule (with_rule a no_key_rule) best_effort_rule) raw_rule) summary_rule
 
 -- the options of each subcommand that runs readers
 abbrev pub with_options : App → App

@@ -57,6 +57,7 @@ pub record AreOptions (options : Options) (rows : List Row) : Type 0 where
       ≡ batch_size (one_to 64 (number_in (codes "workers") rows)) (number_in (codes "batch") rows)
   pub topic : options.topic.now ≡ text_or (codes "topic") topic_text rows
   pub type_name : options.type_name.now ≡ text_or (codes "type") type_text rows
+  pub no_key : options.no_key ≡ is_set (codes "no-key") rows
   pub fixed : option_map (λ text. text.now) options.fixed ≡ first_of (codes "fixed") rows
   pub best_effort : options.best_effort ≡ is_set (codes "best-effort") rows
   pub raw : options.raw ≡ is_set (codes "raw") rows

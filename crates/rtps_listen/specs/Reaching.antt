@@ -1,5 +1,5 @@
 -- Where a participant announces itself, and where it is reached (DDSI-RTPS 8.5.3.2, 9.6.1).
-use Rattle.std.specs.Prelude.{◌≡◌, ◌<◌, ◌≤◌, ◌≢◌, ◌⊎◌, ◌+◌, ◌*◌, ◌==◌, ◌&&◌, ◌++◌, ℕ, ℤ, pos, nat_le, nat_lt, if◌then◌else◌, List, [], ◌∷◌, length, filter, flat_map, map, Bool, true, false, not, Option, None, Some, Result, Ok, Err, IsErrAnd, IsTrue}
+use Rattle.std.specs.Prelude.{◌≡◌, ◌<◌, ◌≤◌, ◌⊎◌, ◌+◌, ◌*◌, ◌==◌, ◌&&◌, ◌++◌, ℕ, pos, nat_lt, if◌then◌else◌, List, [], ◌∷◌, length, filter, flat_map, map, Bool, true, false, not, Option, None, Some, Result, Err, IsErrAnd, IsTrue}
 use Rattle.std.specs.List.{range_with_len, slice_split}
 use Rattle.std.specs.Str.{bytes_eq}
 use Rattle.std.specs.Net.Addr.{ipv4_octets}

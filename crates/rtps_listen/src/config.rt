@@ -3,7 +3,7 @@
 ghost use Rattle.std.specs.Prelude.{◌≡◌, ◌<◌, ◌++◌, ◌↔◌, IfErr, IfOk, IsOk, Ok, OnOk};
 ghost use Rattle.rtps_discovery.specs.Config.{check_of};
 ghost use Rattle.rtps_discovery.specs.Start.{wish_of};
-ghost use Rattle.rtps_listen.specs.Configs.{IsCause, IsConfigOf, IsFixedText, IsMadeOf, NamesWriter, Refuses, match_at, reader_of, reliability_of};
+ghost use Rattle.rtps_listen.specs.Configs.{IsCause, IsConfigOf, IsFixedText, IsMadeOf, NamesWriter, Refuses, match_at, reader_of};
 
 use crate::fault::ListenFault;
 use crate::options::Options;
@@ -13,21 +13,15 @@ use rtps_types::{EntityId, Guid, GuidPrefix, Locators};
 use std::alloc::{AllocError, Global};
 
 /// Returns the reader with this rank: a best-effort reader, or a reliable one, which asks again for
-/// what it misses.
-fn reader_for(
-    alloc: Global,
-    topic: &str,
-    type_name: &str,
-    best_effort: bool,
-    rank: u8,
-) -> Result<ReaderConfig, AllocError>
+/// what it misses. Its kind says whether its topic has a key (DDSI-RTPS 9.3.1.2).
+fn reader_for(alloc: Global, options: &Options<'_>, rank: u8) -> Result<ReaderConfig, AllocError>
     requires { rank < 8 }
-    ensures { IfOk result (λ reader. wish_of reader
-        ≡ reader_of topic.now type_name.now (reliability_of best_effort) rank) }
+    ensures { IfOk result (λ reader. wish_of reader ≡ reader_of options.now rank) }
 {
-    let entity = EntityId([0x00, 0x00, rank + 1, 0x07]);
-    let reader = ReaderConfig::new(alloc, entity, topic, type_name)?;
-    if best_effort {
+    let kind = if options.no_key { 0x04 } else { 0x07 };
+    let entity = EntityId([0x00, 0x00, rank + 1, kind]);
+    let reader = ReaderConfig::new(alloc, entity, options.topic, options.type_name)?;
+    if options.best_effort {
         Ok(reader)
     } else {
         Ok(reader.reliable())
@@ -64,14 +58,8 @@ fn config_with(
     ensures { IfOk result (IsMadeOf options.now own writer) }
 {
     let mut config = Config::new(alloc, own);
-    let Options {
-        topic,
-        type_name,
-        best_effort,
-        ..
-    } = *options;
     for rank in 0..options.readers {
-        let reader = reader_for(alloc, topic, type_name, best_effort, rank)?;
+        let reader = reader_for(alloc, options, rank)?;
         config.add_reader(reader)?;
         match_with(&mut config, alloc, writer, rank)?;
     }

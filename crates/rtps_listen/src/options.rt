@@ -31,6 +31,8 @@ pub struct Options<'a> {
     pub topic: &'a str,
     /// The name of its type, as writers announce it.
     pub type_name: &'a str,
+    /// Whether the topic has no key, by which writers tell which readers may be theirs.
+    pub no_key: bool,
     /// A writer that each reader is matched with from the start, in hex.
     pub fixed: Option<&'a str>,
     /// Whether the readers ask for nothing again.
@@ -86,6 +88,7 @@ impl Options<'_> {
             batch: 512,
             topic: TOPIC,
             type_name: TYPE_NAME,
+            no_key: false,
             fixed: None,
             best_effort: false,
             raw: false,

@@ -107,6 +107,7 @@ fn options_in<'a>(matches: &ArgMatches<'a>) -> Options<'a>
         batch: batch_size(workers, number_in(matches, "batch")),
         topic: text_in(matches, "topic", TOPIC),
         type_name: text_in(matches, "type", TYPE_NAME),
+        no_key: flag_in(matches, "no-key"),
         fixed: matches.get_str("fixed"),
         best_effort: flag_in(matches, "best-effort"),
         raw: flag_in(matches, "raw"),

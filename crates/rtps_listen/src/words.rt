@@ -160,6 +160,7 @@ fn with_flags<'a>(alloc: Global, command: Command<'a>) -> Result<Command<'a>, Al
     ensures { IfOk result (λ c. IsPlainApp c (line.with_flags (app_of command.entry))) }
 {
     command
+        .arg(no_key(alloc))?
         .arg(best_effort(alloc))?
         .arg(raw(alloc))?
         .arg(summary(alloc))
@@ -256,6 +257,17 @@ fn fixed<'a>(alloc: Global) -> Arg<'a>
         .value_name("HEX")
         .help("A writer that each reader is matched with from the start, 32 hex digits")
         .long("fixed")
+}
+
+fn no_key<'a>(alloc: Global) -> Arg<'a>
+    ensures { IsPlainRule result line.no_key_rule }
+{
+    Arg::new(alloc, "no-key")
+        .help(
+            "The topic has no key, as most topics of ROS 2: writers match only readers that say so",
+        )
+        .long("no-key")
+        .action(ArgAction::SetTrue)
 }
 
 fn best_effort<'a>(alloc: Global) -> Arg<'a>

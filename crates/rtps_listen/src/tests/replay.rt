@@ -107,6 +107,7 @@ fn a_line_with_all_options(rt: HostRuntime) -> Result<(), Fail> {
         "--batch",
         "1",
         "--summary",
+        "--no-key",
         "--best-effort",
     ];
     let mut options = flags(true, true, true);
@@ -116,6 +117,7 @@ fn a_line_with_all_options(rt: HostRuntime) -> Result<(), Fail> {
     options.batch = 1;
     options.topic = "";
     options.type_name = "demo::Own";
+    options.no_key = true;
     options.own = "x";
     options.fixed = Some("y");
     assert!(rt; reads(rt.alloc(), line.as_slice(), options)?);
@@ -235,6 +237,7 @@ fn configuration_of_eight_readers(rt: HostRuntime) -> Result<(), Fail> {
     options.readers = 8;
     options.topic = "Circle";
     options.type_name = "demo::Circle";
+    options.no_key = true;
     options.best_effort = false;
     let config = config_of(rt.alloc(), &options)?;
     assert_eq!(rt; check(&config), Ok(()));
@@ -243,7 +246,7 @@ fn configuration_of_eight_readers(rt: HostRuntime) -> Result<(), Fail> {
     assert_eq!(rt; config.fixed.len(), 8);
     let keys = [1u8, 2, 3, 4, 5, 6, 7, 8];
     for (reader, key) in config.readers.as_slice().iter().zip(keys) {
-        assert_eq!(rt; reader.entity, EntityId([0, 0, key, 7]));
+        assert_eq!(rt; reader.entity, EntityId([0, 0, key, 4]));
         assert_eq!(rt; reader.topic.as_str(), "Circle");
         assert_eq!(rt; reader.type_name.as_str(), "demo::Circle");
         assert_eq!(rt;

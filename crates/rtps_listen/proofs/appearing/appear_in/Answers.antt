@@ -1,4 +1,4 @@
-use Rattle.std.proofs.Common.{ap, refl, Ok}
+use Rattle.std.proofs.Common.{ap, refl}
 use Rattle.rtps_listen.proofs.Appeared.{appears_all, config_none, config_refused, places_none, places_refused, ports_none, ports_refused, prefix_none, prefix_refused, run_refused}
 use Rattle.rtps_listen.proofs.appearing.appear_in.Goals as goal
 

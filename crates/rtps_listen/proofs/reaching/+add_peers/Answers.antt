@@ -1,6 +1,6 @@
-use Rattle.std.proofs.Common.{◌≡◌, ◌∙◌, List, ◌∷◌, Some, ap, arith, inl, inr, rules}
+use Rattle.std.proofs.Common.{◌∙◌, ap, arith, inl, inr, rules}
 use Rattle.std.specs.Prelude.{option_map}
-use Rattle.rtps_listen.specs.Reaching.{parts_of, parts_with}
+use Rattle.rtps_listen.specs.Reaching.{parts_with}
 use Rattle.rtps_listen.proofs.Places.{adds_all, adds_last, causes_more, none_first, some_part}
 use Rattle.rtps_listen.proofs.reaching.+add_peers.Goals as goal
 

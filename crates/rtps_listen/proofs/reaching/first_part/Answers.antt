@@ -1,4 +1,4 @@
-use Rattle.std.proofs.Common.{◌≡◌, List, [], ◌∷◌, Option, MatchOption, Bor, subst}
+use Rattle.std.proofs.Common.{◌≡◌, [], ◌∷◌, Option, MatchOption, Bor, subst}
 use Rattle.clap.specs.Words.{Text}
 use Rattle.rtps_listen.specs.Reaching.{parts_of}
 use Rattle.rtps_listen.proofs.Places.{parts_found}
