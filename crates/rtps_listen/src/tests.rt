@@ -178,7 +178,7 @@ fn bad_lines(rt: HostRuntime) -> Result<(), Fail> {
 }
 
 /// Faults, with the text and the exit status of each.
-const FAULTS: [(ListenFault, &str, u8); 16] = [
+const FAULTS: [(ListenFault, &str, u8); 17] = [
     (ListenFault::NoText, "a word is not text", 2),
     (ListenFault::BadPrefix, "bad prefix", 2),
     (ListenFault::BadWriter, "bad writer", 2),
