@@ -135,9 +135,13 @@ fn has_header(version: Version, item: &Node) -> bool
     }
 }
 
-/// Passes over a value of a type.
+/// Passes over a value of a type, in a version and in the byte order of the reader. `of` has to name
+/// one of the types.
+///
+/// After a fault, which is one of those of [`TopicType::look_through`](crate::TopicType), the reader
+/// is somewhere behind the first octet of what is no value. No memory is taken.
 #[cycle(walk)]
-pub(crate) fn skip(
+pub fn skip(
     types: &Types,
     of: TypeId,
     version: Version,

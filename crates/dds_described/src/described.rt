@@ -1,0 +1,57 @@
+//! The catalog of a described type.
+
+ghost use Rattle.std.specs.Prelude.{◌≡◌, ◌↔◌, ℕ, List, None, Err, IfOk, IsErrOf, Ok};
+ghost use Rattle.dds_topic.specs.Answer.{Gives};
+ghost use Rattle.dds_topic.specs.declared.unread.CatalogError.TheVariants as errors;
+ghost use Rattle.dds_topic.specs.declared.unread.Unread.TheVariants as unread;
+ghost use Rattle.dds_xcdr.specs.Topic.{form_of};
+ghost use Rattle.dds_xcdr.specs.TopicType.{topic_type};
+ghost use Rattle.dds_described.specs.Kept.{IsKept, Kept, kept};
+
+use crate::DynamicData;
+use dds_topic::{CatalogError, Unread};
+use dds_xcdr::{Form, TopicType};
+use std::alloc::Global;
+
+/// The catalog of a topic whose type is described at run time.
+#[derive(Drop)]
+pub struct Described {
+    topic: TopicType,
+}
+
+impl Described {
+    /// Returns the catalog of a topic of this type.
+    pub fn new(topic: TopicType) -> Described
+        ensures { result.topic ≡ topic }
+    {
+        Described { topic }
+    }
+
+    /// Returns the value that a body begins with: a copy of its octets, which is all the memory
+    /// that is taken. `kind` is the encapsulation kind (DDSI-RTPS 10.2). Octets that follow the
+    /// value are left out.
+    ///
+    /// `Encapsulation` if the kind is none that [`Form::of_kind`] knows, `Malformed` if the body
+    /// doesn't begin with a value of the type, and `NoMemory` if memory is refused.
+    pub fn read(&self, alloc: Global, kind: u16, body: &[u8]) -> Result<DynamicData, CatalogError>
+        ensures found { IfOk result
+            (λ d. IsKept (topic_type self.now.topic) kind body.now (kept d)) }
+        ensures only { (k : Kept) → IsKept (topic_type self.now.topic) kind body.now k
+            → Gives kept result (Ok k) }
+        ensures other { IsErrOf result (errors.Unread unread.Encapsulation) ↔ (form_of kind ≡ None) }
+    {
+        let Some(form) = Form::of_kind(kind) else {
+            return Err(CatalogError::Unread(Unread::Encapsulation));
+        };
+        match self.topic.look_through(kind, body) {
+            Ok(count) => {
+                let (front, _) = body.split_at(count);
+                Ok(DynamicData {
+                    body: Vec::from_slice(alloc, front)?,
+                    form,
+                })
+            }
+            Err(_) => Err(CatalogError::Unread(Unread::Malformed)),
+        }
+    }
+}

@@ -1,0 +1,10 @@
+//! The catalog of a topic whose type is described at run time ([`TopicType`](dds_xcdr::TopicType)).
+//!
+//! The octets of a body are looked through once, and those of the value are kept.
+#![tactic(auto)]
+
+mod data;
+mod described;
+
+pub use data::DynamicData;
+pub use described::Described;
