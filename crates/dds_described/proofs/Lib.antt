@@ -1,1 +1,4 @@
 pub mod Fronts
+pub mod Finds
+pub mod Values
+pub mod Sources

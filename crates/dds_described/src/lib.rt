@@ -5,6 +5,8 @@
 
 mod data;
 mod described;
+pub mod laws;
+mod source;
 
 pub use data::DynamicData;
 pub use described::Described;

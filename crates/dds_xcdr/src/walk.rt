@@ -125,8 +125,9 @@ fn number_size(of: &Node) -> Option<usize>
     }
 }
 
-/// Whether a header comes before items of a type.
-fn has_header(version: Version, item: &Node) -> bool
+/// Whether a header that counts octets comes before the items of a collection, by the type of the items
+/// (DDS-XTypes 7.4.3.5.3).
+pub fn has_header(version: Version, item: &Node) -> bool
     ensures { (types : List Xtype) → result ≡ has_header version (meant types item.now) }
 {
     match version {

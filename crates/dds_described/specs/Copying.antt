@@ -1,0 +1,62 @@
+-- What is read of one type, and written as of another.
+use Rattle.std.specs.Prelude.{ℕ, List, Bool, Result, Ok, Err, Some, None}
+use Rattle.rtps_types.specs.declared.field.Endian.{Endian}
+use Rattle.rtps_cdr.specs.Reading.{Cursor, placed}
+use Rattle.rtps_cdr.specs.Writing.{Output}
+use Rattle.dds_topic.specs.declared.unread.Unread.{Unread as UnreadCode}
+use Rattle.dds_topic.specs.declared.unread.Unread.TheVariants as unread
+use Rattle.dds_xcdr.specs.declared.version.Version.{Version}
+use Rattle.dds_xcdr.specs.Xtype.{Xtype, Fields, ValueOf, ValuesOf}
+use Rattle.dds_described.specs.Reading.{Found, value_found, values_found}
+use Rattle.dds_described.specs.Writing.{all_fields, put, written}
+use Rattle.dds_described.specs.Key.{held, held_fields, holder, kept_fields}
+
+-- a reader and a writer
+pub record Copy : Type 0 where
+  pub reader : Cursor
+  pub writer : Output
+
+-- the value that was found; octets that are none are malformed
+abbrev pub value_in : {A : Type 0} → Found A → Result A UnreadCode
+value_in (Some x) = Ok x.0
+value_in None = Err unread.Malformed
+
+-- the reader behind it
+abbrev pub behind : {A : Type 0} → Cursor → Found A → Cursor
+behind c (Some x) = placed c x.1
+behind c None = c
+
+abbrev pub passed : {A : Type 0} → Cursor → Found A → Result Cursor UnreadCode
+passed c (Some x) = Ok (placed c x.1)
+passed c None = Err unread.Malformed
+
+-- what is found is written
+abbrev pub moved : {A : Type 0} → (ℕ → Endian → A → List ℕ) → Copy → Found A
+    → Result Copy UnreadCode
+moved write s (Some x) = Ok (record {
+  reader = placed s.reader x.1;
+  writer = put (λ at e. write at e x.0) s.writer;
+})
+moved write s None = Err unread.Malformed
+
+abbrev pub moves : {A : Type 0} → (Cursor → Found A) → (ℕ → Endian → A → List ℕ) → Copy
+    → Result Copy UnreadCode
+moves read write s = moved write s (read s.reader)
+
+-- a value is copied, or the part of it that is its key
+abbrev pub copied : Version → Xtype → Copy → Result Copy UnreadCode
+copied v t s = moves (λ c. value_found v t c) (λ at e x. written t at e x) s
+
+abbrev pub key_copied : Version → Xtype → Copy → Result Copy UnreadCode
+key_copied v t s =
+    moves (λ c. value_found v t c) (λ at e x. written (holder t) at e (held t x)) s
+
+-- the members of a struct, or those that are its key
+abbrev pub fields_copied : Version → Fields → Copy → Result Copy UnreadCode
+fields_copied v fields s =
+    moves (λ c. values_found v fields c) (λ at e xs. all_fields fields at e xs) s
+
+abbrev pub key_fields_copied : Version → (keyed : Bool) → Fields → Copy → Result Copy UnreadCode
+key_fields_copied v keyed fields s =
+    moves (λ c. values_found v fields c)
+    (λ at e xs. all_fields (kept_fields keyed fields) at e (held_fields keyed fields xs)) s
