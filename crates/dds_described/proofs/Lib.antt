@@ -2,3 +2,4 @@ pub mod Fronts
 pub mod Finds
 pub mod Values
 pub mod Sources
+pub mod Copies

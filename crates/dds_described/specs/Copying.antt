@@ -1,13 +1,13 @@
 -- What is read of one type, and written as of another.
-use Rattle.std.specs.Prelude.{ℕ, List, Bool, Result, Ok, Err, Some, None}
+use Rattle.std.specs.Prelude.{ℕ, List, length, Bool, Result, Ok, Err, Some, None}
 use Rattle.rtps_types.specs.declared.field.Endian.{Endian}
 use Rattle.rtps_cdr.specs.Reading.{Cursor, placed}
-use Rattle.rtps_cdr.specs.Writing.{Output}
+use Rattle.rtps_cdr.specs.Writing.{Output, all_written}
 use Rattle.dds_topic.specs.declared.unread.Unread.{Unread as UnreadCode}
 use Rattle.dds_topic.specs.declared.unread.Unread.TheVariants as unread
 use Rattle.dds_xcdr.specs.declared.version.Version.{Version}
-use Rattle.dds_xcdr.specs.Xtype.{Xtype, Fields, ValueOf, ValuesOf}
-use Rattle.dds_described.specs.Reading.{Found, value_found, values_found}
+use Rattle.dds_xcdr.specs.Xtype.{Xtype, Fields, Sequence, ValueOf, ValuesOf}
+use Rattle.dds_described.specs.Reading.{Found, counted_found, is_within, items_found, tested, value_found, values_found}
 use Rattle.dds_described.specs.Writing.{all_fields, put, written}
 use Rattle.dds_described.specs.Key.{held, held_fields, holder, kept_fields}
 
@@ -60,3 +60,16 @@ abbrev pub key_fields_copied : Version → (keyed : Bool) → Fields → Copy �
 key_fields_copied v keyed fields s =
     moves (λ c. values_found v fields c)
     (λ at e xs. all_fields (kept_fields keyed fields) at e (held_fields keyed fields xs)) s
+
+-- n items are copied, and a count with the items that it counts
+abbrev pub items_copied : Version → Xtype → ℕ → Copy → Result Copy UnreadCode
+items_copied v t n s =
+    moves (λ c. items_found (λ d. value_found v t d) n c)
+    (λ at e xs. all_written (λ p x. written t p e x) at xs) s
+
+abbrev pub counted_copied : Version → Xtype → ℕ → Copy → Result Copy UnreadCode
+counted_copied v t bound s =
+    moves
+    (λ c. tested (λ xs end. is_within bound (length xs))
+    (counted_found (λ d. value_found v t d) c))
+    (λ at e xs. written (Sequence t bound) at e xs) s

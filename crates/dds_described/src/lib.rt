@@ -3,6 +3,8 @@
 //! The octets of a body are looked through once, and those of the value are kept.
 #![tactic(auto)]
 
+mod copier;
+mod copying;
 mod data;
 mod described;
 pub mod laws;
