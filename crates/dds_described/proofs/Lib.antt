@@ -3,3 +3,4 @@ pub mod Finds
 pub mod Values
 pub mod Sources
 pub mod Copies
+pub mod KeyParts

@@ -1,5 +1,5 @@
 -- What is read of one type, and written as of another.
-use Rattle.std.specs.Prelude.{ℕ, List, length, Bool, Result, Ok, Err, Some, None}
+use Rattle.std.specs.Prelude.{ℕ, List, length, [], Bool, true, false, Result, Ok, Err, Some, None}
 use Rattle.rtps_types.specs.declared.field.Endian.{Endian}
 use Rattle.rtps_cdr.specs.Reading.{Cursor, placed}
 use Rattle.rtps_cdr.specs.Writing.{Output, all_written}
@@ -73,3 +73,13 @@ counted_copied v t bound s =
     (λ c. tested (λ xs end. is_within bound (length xs))
     (counted_found (λ d. value_found v t d) c))
     (λ at e xs. written (Sequence t bound) at e xs) s
+
+-- a member of a struct whose key is copied: one that is no part of it is passed, or isn't there
+abbrev pub key_member_copied : Version → (is_left : Bool) → Xtype → Copy → Result Copy UnreadCode
+key_member_copied v true t s = moves (λ c. value_found v t c) (λ at e x. []) s
+key_member_copied v false t s = key_copied v t s
+
+abbrev pub holder_member_copied : Version → (is_left : Bool) → Xtype → Copy
+    → Result Copy UnreadCode
+holder_member_copied v true t s = Ok s
+holder_member_copied v false t s = copied v (holder t) s

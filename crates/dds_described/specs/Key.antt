@@ -5,8 +5,9 @@ use Rattle.md5.specs.Md5.{md5}
 use Rattle.rtps_types.specs.declared.field.Endian.TheVariants.{Big}
 use Rattle.rtps_types.specs.declared.identity.KeyHash.{KeyHash}
 use Rattle.rtps_cdr.specs.Reading.{aligned}
+use Rattle.rtps_cdr.specs.Writing.{Output}
 use Rattle.dds_xcdr.specs.Xtype.{Xtype, Fields, Tag, Number, Signed, Truth, Enum, Text, Sequence, Array, Struct, none, field, ValueOf, ValuesOf}
-use Rattle.dds_described.specs.Writing.{written}
+use Rattle.dds_described.specs.Writing.{least_put, written}
 
 -- ---- the key
 
@@ -78,6 +79,11 @@ key_of (Text bound) x = tt
 key_of (Sequence t bound) x = tt
 key_of (Array t count) x = tt
 key_of (Struct fields) xs = held_fields true fields xs
+
+-- a writer after the least key of a member, unless it is no part of the key
+abbrev pub key_member_put : (is_left : Bool) → Xtype → Output → Output
+key_member_put true t w = w
+key_member_put false t w = least_put (holder t) w
 
 -- ---- its hash
 

@@ -64,3 +64,14 @@ abbrev mutual
   pub AllFit : (fields : Fields) → ValuesOf fields → Type 0
   AllFit none xs = Unit {0}
   AllFit (field tag t fields) xs = Fits t xs.0 × AllFit fields xs.1
+
+-- a writer after the least value of a type, after n of them, and after those of members
+abbrev pub least_put : Xtype → Output → Output
+least_put t w = put (λ at e. written t at e (least t)) w
+
+abbrev pub leasts_put : Xtype → ℕ → Output → Output
+leasts_put t n w =
+    put (λ at e. all_written (λ p x. written t p e x) at (replicate n (least t))) w
+
+abbrev pub fields_put : Fields → Output → Output
+fields_put fields w = put (λ at e. all_fields fields at e (least_fields fields)) w

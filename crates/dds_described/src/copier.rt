@@ -39,7 +39,7 @@ impl<'a> Model for Copier<'a> {
 const TOO_LONG: usize = 0xffff_ffff;
 
 /// Writes a number of `size` octets.
-fn write_number(size: usize, n: u64, writer: &mut CdrWriter) -> Result<(), AllocError>
+pub(crate) fn write_number(size: usize, n: u64, writer: &mut CdrWriter) -> Result<(), AllocError>
     requires size { IsSize size }
     requires fits { n < 256 ^ size }
     ensures { OnOk result (writer.new ≡ put (λ at e. number_written size at e n) writer.old) }

@@ -7,6 +7,7 @@ mod copier;
 mod copying;
 mod data;
 mod described;
+mod keys;
 pub mod laws;
 mod source;
 
