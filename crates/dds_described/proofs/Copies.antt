@@ -1,5 +1,5 @@
 -- Copies of values, part by part.
-use Rattle.std.proofs.Common.{◌≡◌, ◌≢◌, ℕ, zero, suc, ◌+◌, ◌-◌, ◌^◌, ◌≤◌, ◌<◌, ◌==◌, Bool, true, false, not, List, [], ◌∷◌, ◌++◌, length, drop, get_or, nat_le, if◌then◌else◌, Option, Some, None, Result, Ok, Err, refl, sym, ◌∙◌, ap, subst, arith, append_assoc, append-nil, length-append, drop-cons, add-one, drop_of_length-le}
+use Rattle.std.proofs.Common.{◌≡◌, ◌≢◌, ℕ, zero, suc, ◌+◌, ◌-◌, ◌^◌, ◌≤◌, ◌<◌, ◌==◌, Bool, true, false, List, [], ◌∷◌, ◌++◌, length, drop, get_or, if◌then◌else◌, Some, None, Result, Ok, Err, refl, sym, ◌∙◌, ap, subst, arith, append_assoc, append-nil, length-append, drop-cons, add-one, drop_of_length-le}
 use Rattle.std.proofs.lemmas.Int.{of_z-to_z}
 use Rattle.std.proofs.lemmas.Option.{some_pair_parts}
 use Rattle.std.specs.Int.{Width, w8, w16, w32, w64, w128, byte_len, cast_signed, cast_unsigned}
@@ -20,8 +20,7 @@ use Rattle.dds_xcdr.specs.Xcdr.{alignment, has_header}
 use Rattle.dds_xcdr.specs.Xtype.{Xtype, Fields, Tag, Number, Signed, Truth, Enum, Text, Sequence, Array, Struct, none, field, ValueOf, ValuesOf, number_size}
 use Rattle.dds_described.specs.Reading.{Found, counted_found, followed, found, headed_found, is_within, items_found, mapped, number_found, tested, value_found, values_found}
 use Rattle.dds_described.specs.Writing.{all_fields, put, written}
-use Rattle.dds_described.specs.Key.{held, held_fields, holder, is_left_out, kept_fields, with_first}
-use Rattle.dds_described.specs.Copying.{Copy, behind, copied, counted_copied, fields_copied, items_copied, key_copied, key_fields_copied, moved, moves, passed, value_in}
+use Rattle.dds_described.specs.Copying.{Copy, behind, copied, counted_copied, fields_copied, items_copied, moved, moves, passed, value_in}
 
 -- ---- errors
 

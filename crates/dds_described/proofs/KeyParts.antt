@@ -1,8 +1,7 @@
 -- Copies of keys, member by member.
-use Rattle.std.proofs.Common.{◌≡◌, ℕ, ◌+◌, ◌≤◌, ◌<◌, Bool, true, false, List, [], ◌∷◌, ◌++◌, length, drop, get_or, if◌then◌else◌, Result, Ok, Err, refl, sym, ◌∙◌, ap, subst, add-zero, append-nil, drop_of_length-le, Vec, Global}
+use Rattle.std.proofs.Common.{◌≡◌, ℕ, ◌+◌, ◌≤◌, ◌<◌, Bool, true, false, List, [], ◌++◌, length, drop, get_or, if◌then◌else◌, ◌&&◌, ◌||◌, not, Some, None, Result, Ok, refl, sym, ◌∙◌, ap, subst, add-zero, append-nil, drop_of_length-le, Vec, Global}
 use Rattle.rtps_types.specs.declared.field.Endian.{Endian}
 use Rattle.rtps_cdr.specs.Reading.{Cursor, placed}
-use Rattle.rtps_cdr.specs.Writing.{Output}
 use Rattle.dds_topic.specs.Answer.{Fails}
 use Rattle.dds_topic.specs.declared.unread.CatalogError.{CatalogError}
 use Rattle.dds_topic.specs.declared.unread.Unread.{Unread as UnreadCode}
@@ -13,11 +12,11 @@ use Rattle.dds_xcdr.specs.declared.primitive.Primitive.{Primitive}
 use Rattle.dds_xcdr.specs.declared.primitive.Primitive.TheVariants as primitive
 use Rattle.dds_xcdr.specs.declared.version.Version.{Version}
 use Rattle.dds_xcdr.specs.Types.{fields_in, meant, plain, type_in}
-use Rattle.dds_xcdr.specs.Xtype.{Xtype, Fields, Tag, Struct, none, field, ValueOf, ValuesOf}
-use Rattle.dds_described.specs.Reading.{Found, followed, mapped, value_found, values_found}
-use Rattle.dds_described.specs.Writing.{all_fields, put, written}
-use Rattle.dds_described.specs.Key.{has_key, held, held_fields, holder, is_left_out, kept_fields, with_first}
-use Rattle.dds_described.specs.Copying.{Copy, copied, fields_copied, holder_member_copied, key_copied, key_fields_copied, key_member_copied, moves}
+use Rattle.dds_xcdr.specs.Xtype.{Xtype, Fields, Tag, Number, Signed, Truth, Enum, Text, Sequence, Array, Struct, none, field, ValueOf, ValuesOf}
+use Rattle.dds_described.specs.Reading.{Found, value_found, values_found}
+use Rattle.dds_described.specs.Writing.{all_fields, written}
+use Rattle.dds_described.specs.Key.{has_key, held, held_fields, holder, is_keyed, is_left_out, kept_fields, key_type, with_first}
+use Rattle.dds_described.specs.Copying.{Copy, copied, fields_copied, holder_member_copied, key_copied, key_fields_copied, key_member_copied, moved, moves, topic_key_copied}
 use Rattle.dds_described.proofs.Copies.{both_moved, fails_as, fields_next, next, no_fields, parts_at}
 
 -- ---- out of values
@@ -238,3 +237,95 @@ holder_default types (node.Sequence item bound) t is other =
 holder_default types (node.Array item dimensions) t is other =
     subst (λ (u : Xtype). holder u ≡ u) is refl
 holder_default types (node.Struct members) t is other = absurd (other members refl)
+
+-- ---- keys of topics
+
+-- what is written alike
+moves_alike : (A : Type 0) (read : Cursor → Found A) (one other : ℕ → Endian → A → List ℕ) (s : Copy)
+    → ((x : A) (at : ℕ) (e : Endian) → one at e x ≡ other at e x)
+    → moves read one s ≡ moves read other s
+moves_alike A read one other s same = by_found (read s.reader) where
+  by_found : (x : Found A) → moved one s x ≡ moved other s x
+  by_found None = refl
+  by_found (Some x) =
+      ap (λ (os : List ℕ). Ok (record {
+        reader = placed s.reader x.1;
+        writer = record { octets = s.writer.octets ++ os; endian = s.writer.endian };
+      })) (same x.0 (length s.writer.octets) s.writer.endian)
+
+no_key_left : (a b : Bool) → (a || b) ≡ false → (a ≡ false) × (b ≡ false)
+no_key_left true b same = absurd (cc same)
+no_key_left false b same = (refl, same)
+
+-- without key members none is kept
+none_kept : (fields : Fields) → has_key fields ≡ false → kept_fields true fields ≡ none
+none_kept none same = refl
+none_kept (field tag t fields) same =
+    let parts = no_key_left tag.is_key (has_key fields) same in
+    ap (λ (b : Bool). if true && not b then kept_fields true fields
+    else field tag (holder t) (kept_fields true fields)) parts.0 ∙ none_kept fields parts.1
+
+none_written : (fields : Fields) → has_key fields ≡ false → (xs : ValuesOf fields) (at : ℕ)
+    (e : Endian) → all_fields (kept_fields true fields) at e (held_fields true fields xs) ≡ []
+none_written none same xs at e = refl
+none_written (field tag t fields) same xs at e =
+    let parts = no_key_left tag.is_key (has_key fields) same in
+    by_key (none_written fields parts.1 xs.1 at e) tag.is_key parts.0 where
+      by_key : all_fields (kept_fields true fields) at e (held_fields true fields xs.1) ≡ []
+          → (k : Bool) → k ≡ false
+          → all_fields (if true && not k then kept_fields true fields
+          else field tag (holder t) (kept_fields true fields)) at e
+          (with_first (true && not k) tag (holder t) (kept_fields true fields) (held t xs.0)
+          (held_fields true fields xs.1)) ≡ []
+      by_key rest true is = absurd (cc is)
+      by_key rest false is = rest
+
+pub keyed_copied : (v : Version) (t : Xtype) (s : Copy) → is_keyed t ≡ true
+    → topic_key_copied v t s ≡ key_copied v t s
+keyed_copied v (Struct fields) s same =
+    ap (λ (b : Bool). moves (λ c. values_found v fields c)
+    (λ at e xs. all_fields (kept_fields b fields) at e (held_fields b fields xs)) s) (sym same)
+keyed_copied v (Number size) s same = absurd (cc same)
+keyed_copied v (Signed w) s same = absurd (cc same)
+keyed_copied v Truth s same = absurd (cc same)
+keyed_copied v Enum s same = absurd (cc same)
+keyed_copied v (Text bound) s same = absurd (cc same)
+keyed_copied v (Sequence t bound) s same = absurd (cc same)
+keyed_copied v (Array t count) s same = absurd (cc same)
+
+pub unkeyed_copied : (v : Version) (t : Xtype) (s : Copy) → is_keyed t ≡ false
+    → topic_key_copied v t s ≡ moves (λ c. value_found v t c) (λ at e x. []) s
+unkeyed_copied v (Struct fields) s same =
+    moves_alike (ValuesOf fields) (λ c. values_found v fields c)
+    (λ at e xs. all_fields (kept_fields true fields) at e (held_fields true fields xs))
+    (λ at e xs. []) s (λ xs at e. none_written fields same xs at e)
+unkeyed_copied v (Number size) s same = refl
+unkeyed_copied v (Signed w) s same = refl
+unkeyed_copied v Truth s same = refl
+unkeyed_copied v Enum s same = refl
+unkeyed_copied v (Text bound) s same = refl
+unkeyed_copied v (Sequence t bound) s same = refl
+unkeyed_copied v (Array t count) s same = refl
+
+pub keyed_type : (t : Xtype) → is_keyed t ≡ true → key_type t ≡ holder t
+keyed_type (Struct fields) same =
+    ap (λ (b : Bool). Struct (kept_fields b fields)) (sym same)
+keyed_type (Number size) same = absurd (cc same)
+keyed_type (Signed w) same = absurd (cc same)
+keyed_type Truth same = absurd (cc same)
+keyed_type Enum same = absurd (cc same)
+keyed_type (Text bound) same = absurd (cc same)
+keyed_type (Sequence t bound) same = absurd (cc same)
+keyed_type (Array t count) same = absurd (cc same)
+
+pub unkeyed_type : (v : Version) (t : Xtype) (s : Copy) → is_keyed t ≡ false
+    → copied v (key_type t) s ≡ Ok s
+unkeyed_type v (Struct fields) s same =
+    ap (λ (fs : Fields). fields_copied v fs s) (none_kept fields same) ∙ no_fields v s
+unkeyed_type v (Number size) s same = no_fields v s
+unkeyed_type v (Signed w) s same = no_fields v s
+unkeyed_type v Truth s same = no_fields v s
+unkeyed_type v Enum s same = no_fields v s
+unkeyed_type v (Text bound) s same = no_fields v s
+unkeyed_type v (Sequence t bound) s same = no_fields v s
+unkeyed_type v (Array t count) s same = no_fields v s

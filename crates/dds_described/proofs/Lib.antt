@@ -4,3 +4,4 @@ pub mod Values
 pub mod Sources
 pub mod Copies
 pub mod KeyParts
+pub mod TopicKeys

@@ -1,5 +1,5 @@
 -- What a walk passes is the value that is found there.
-use Rattle.std.proofs.Common.{◌≡◌, ℕ, ◌+◌, length, subst, Option, Some, None, Result, Ok, Err, refl, sym, ◌∙◌, ap}
+use Rattle.std.proofs.Common.{◌≡◌, ℕ, ◌+◌, length, subst, Some, None, Result, Ok, Err, refl, sym, ◌∙◌, ap}
 use Rattle.rtps_types.specs.declared.field.Endian.{Endian}
 use Rattle.rtps_cdr.specs.declared.fault.CdrFault.{CdrFault}
 use Rattle.rtps_cdr.specs.Cdr.{CdrType, ValueOf as CdrValueOf}

@@ -1,5 +1,5 @@
 -- A value is found exactly if octets encode it.
-use Rattle.std.proofs.Common.{◌≡◌, ℕ, zero, suc, ◌+◌, ◌-◌, ◌≤◌, ◌<◌, ◌==◌, Bool, true, false, List, [], ◌∷◌, ◌++◌, length, take, drop, nat_le, nat_eq, if◌then◌else◌, Option, Some, None, Ok, Err, refl, sym, ◌∙◌, ap, subst, arith, append_assoc, length-append, length-drop, length-take-le, take-append-drop, drop-drop, drop_at, Result}
+use Rattle.std.proofs.Common.{◌≡◌, ℕ, zero, suc, ◌+◌, ◌-◌, ◌≤◌, ◌==◌, Bool, true, false, List, [], ◌++◌, length, take, drop, nat_le, if◌then◌else◌, Some, None, refl, sym, ◌∙◌, ap, subst, arith, append_assoc, length-append, length-drop, length-take-le, take-append-drop, drop-drop, drop_at}
 use Rattle.std.specs.Int.{byte_len, cast_signed, w32}
 use Rattle.std.proofs.lemmas.Option.{some_pair_parts}
 use Rattle.byteorder.specs.Numbers.{big_from-take, little_from-take, big_from-append, little_from-append}
@@ -8,12 +8,12 @@ use Rattle.rtps_types.specs.declared.field.Endian.TheVariants.{Big, Little}
 use Rattle.rtps_types.specs.Field.{number}
 use Rattle.rtps_cdr.specs.Cdr.{AreAll, Unsigned, Boolean, Text as CdrText, Free, IsNumber as IsLength, IsText, padding}
 use Rattle.rtps_cdr.specs.Reading.{Cursor, aligned, bool_in, number_in, placed, text_in}
-use Rattle.rtps_cdr.proofs.Related.{bool_law, is_false, is_true, take-add, unsigned_law}
+use Rattle.rtps_cdr.proofs.Related.{bool_law, is_true, take-add, unsigned_law}
 use Rattle.rtps_cdr.proofs.Counted.{text_law}
 use Rattle.dds_xcdr.specs.declared.version.Version.{Version}
 use Rattle.dds_xcdr.specs.Xtype.{Xtype, Fields, Tag, Number, Signed, Truth, Enum, Text, Sequence, Array, Struct, none, field, ValueOf, ValuesOf}
 use Rattle.dds_xcdr.specs.Xcdr.{AreFields, IsCounted, IsHeaded, IsNumber, IsWithin, IsXcdr, alignment, has_header}
-use Rattle.dds_described.specs.Reading.{Found, found, mapped, followed, tested, number_found, is_within, items_found, counted_found, headed_found, value_found, values_found}
+use Rattle.dds_described.specs.Reading.{Found, found, mapped, tested, number_found, is_within, items_found, counted_found, headed_found, value_found, values_found}
 use Rattle.dds_described.specs.Laws.{Front, Finds, Encodes}
 use Rattle.dds_described.proofs.Finds.{Within, Tested, Then, Items, still_within, finds_as, mapped_finds, tested_finds, followed_finds, items_finds, cdr_finds}
 

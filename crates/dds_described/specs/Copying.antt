@@ -6,10 +6,10 @@ use Rattle.rtps_cdr.specs.Writing.{Output, all_written}
 use Rattle.dds_topic.specs.declared.unread.Unread.{Unread as UnreadCode}
 use Rattle.dds_topic.specs.declared.unread.Unread.TheVariants as unread
 use Rattle.dds_xcdr.specs.declared.version.Version.{Version}
-use Rattle.dds_xcdr.specs.Xtype.{Xtype, Fields, Sequence, ValueOf, ValuesOf}
+use Rattle.dds_xcdr.specs.Xtype.{Xtype, Fields, Sequence}
 use Rattle.dds_described.specs.Reading.{Found, counted_found, is_within, items_found, tested, value_found, values_found}
 use Rattle.dds_described.specs.Writing.{all_fields, put, written}
-use Rattle.dds_described.specs.Key.{held, held_fields, holder, kept_fields}
+use Rattle.dds_described.specs.Key.{held, held_fields, holder, kept_fields, key_of, key_type}
 
 -- a reader and a writer
 pub record Copy : Type 0 where
@@ -60,6 +60,11 @@ abbrev pub key_fields_copied : Version → (keyed : Bool) → Fields → Copy �
 key_fields_copied v keyed fields s =
     moves (λ c. values_found v fields c)
     (λ at e xs. all_fields (kept_fields keyed fields) at e (held_fields keyed fields xs)) s
+
+-- the key of the value of a topic
+abbrev pub topic_key_copied : Version → Xtype → Copy → Result Copy UnreadCode
+topic_key_copied v t s =
+    moves (λ c. value_found v t c) (λ at e x. written (key_type t) at e (key_of t x)) s
 
 -- n items are copied, and a count with the items that it counts
 abbrev pub items_copied : Version → Xtype → ℕ → Copy → Result Copy UnreadCode

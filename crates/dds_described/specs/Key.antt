@@ -1,15 +1,6 @@
--- Keys (DDS-XTypes 7.2.2.4.4.4.8, 7.6.8) and their hashes (DDSI-RTPS 9.6.4.8).
-use Rattle.std.specs.Prelude.{ℕ, zero, suc, ◌+◌, ◌-◌, List, ◌++◌, length, take, replicate, Bool, true, false, ◌&&◌, ◌||◌, not, nat_le, if◌then◌else◌, Option, None, Some, is_some, option_and_then}
-use Rattle.std.specs.Int.{byte_len}
-use Rattle.md5.specs.Md5.{md5}
-use Rattle.rtps_types.specs.declared.field.Endian.TheVariants.{Big}
-use Rattle.rtps_types.specs.declared.identity.KeyHash.{KeyHash}
-use Rattle.rtps_cdr.specs.Reading.{aligned}
-use Rattle.rtps_cdr.specs.Writing.{Output}
+-- Keys (DDS-XTypes 7.2.2.4.4.4.8, 7.6.8).
+use Rattle.std.specs.Prelude.{Bool, true, false, ◌&&◌, ◌||◌, not, if◌then◌else◌}
 use Rattle.dds_xcdr.specs.Xtype.{Xtype, Fields, Tag, Number, Signed, Truth, Enum, Text, Sequence, Array, Struct, none, field, ValueOf, ValuesOf}
-use Rattle.dds_described.specs.Writing.{least_put, written}
-
--- ---- the key
 
 -- some member is part of the key
 abbrev pub has_key : Fields → Bool
@@ -69,6 +60,11 @@ abbrev pub key_type : Xtype → Xtype
 key_type (Struct fields) = Struct (kept_fields true fields)
 key_type other = Struct none
 
+-- a topic of such a type has a key
+abbrev pub is_keyed : Xtype → Bool
+is_keyed (Struct fields) = has_key fields
+is_keyed other = false
+
 -- the key of a value
 abbrev pub key_of : (t : Xtype) → ValueOf t → ValueOf (key_type t)
 key_of (Number size) x = tt
@@ -79,54 +75,3 @@ key_of (Text bound) x = tt
 key_of (Sequence t bound) x = tt
 key_of (Array t count) x = tt
 key_of (Struct fields) xs = held_fields true fields xs
-
--- a writer after the least key of a member, unless it is no part of the key
-abbrev pub key_member_put : (is_left : Bool) → Xtype → Output → Output
-key_member_put true t w = w
-key_member_put false t w = least_put (holder t) w
-
--- ---- its hash
-
--- an end that is at most 16 octets from the start
-abbrev pub short : ℕ → Option ℕ
-short end = if nat_le end 16 then Some end else None
-
--- the end of n values of one type, each of which begins where the one before ends
-unfoldable pub end_of_all : (ℕ → Option ℕ) → ℕ → ℕ → Option ℕ
-end_of_all end zero at = Some at
-end_of_all end (suc n) at = option_and_then (λ next. end_of_all end n next) (end at)
-
--- the end of the largest value in version 1, from a position on, if it is at most 16 octets from
--- the start; what has no bound has none
-abbrev mutual
-  pub short_end : Xtype → ℕ → Option ℕ
-  short_end (Number size) at = short (aligned size at + size)
-  short_end (Signed w) at = short (aligned (byte_len w) at + byte_len w)
-  short_end Truth at = short (at + 1)
-  short_end Enum at = short (aligned 4 at + 4)
-  short_end (Text zero) at = None
-  short_end (Text (suc bound)) at = short (aligned 4 at + 4 + suc bound + 1)
-  short_end (Sequence t zero) at = None
-  short_end (Sequence t (suc bound)) at =
-      option_and_then (λ start. end_of_all (λ p. short_end t p) (suc bound) start)
-      (short (aligned 4 at + 4))
-  short_end (Array t count) at = end_of_all (λ p. short_end t p) count at
-  short_end (Struct fields) at = short_fields fields at
-
-  pub short_fields : Fields → ℕ → Option ℕ
-  short_fields none at = Some at
-  short_fields (field tag t fields) at =
-      option_and_then (λ next. short_fields fields next) (short_end t at)
-
--- the greatest size of a key is at most 16 octets
-abbrev pub is_short : Xtype → Bool
-is_short t = is_some (short_end t 0)
-
--- the hash for the octets of a key: themselves with zeros behind them, or their MD5
-abbrev pub hash_of_octets : Bool → List ℕ → KeyHash
-hash_of_octets short octets =
-    record { 0 = if short then take 16 octets ++ replicate (16 - length octets) 0 else md5 octets }
-
--- the hash of a key, by its octets in version 1, the high octet first
-abbrev pub key_hash : (t : Xtype) → ValueOf t → KeyHash
-key_hash t key = hash_of_octets (is_short t) (written t 0 Big key)

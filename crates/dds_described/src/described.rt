@@ -6,11 +6,15 @@ ghost use Rattle.dds_topic.specs.declared.unread.CatalogError.TheVariants as err
 ghost use Rattle.dds_topic.specs.declared.unread.Unread.TheVariants as unread;
 ghost use Rattle.dds_xcdr.specs.Topic.{form_of};
 ghost use Rattle.dds_xcdr.specs.TopicType.{topic_type};
+ghost use Rattle.dds_described.specs.Decoded.{payload_key, value_key};
 ghost use Rattle.dds_described.specs.Kept.{IsKept, Kept, kept};
 
 use crate::DynamicData;
+use crate::copier::Copier;
+use crate::keys::{copy_payload_key, copy_topic_key};
 use dds_topic::{CatalogError, Unread};
 use dds_xcdr::{Form, TopicType};
+use rtps_types::Endian;
 use std::alloc::Global;
 
 /// The catalog of a topic whose type is described at run time.
@@ -52,6 +56,59 @@ impl Described {
                 })
             }
             Err(_) => Err(CatalogError::Unread(Unread::Malformed)),
+        }
+    }
+
+    /// Returns the octets of the key of a value in version 1 and a byte order (DDS-XTypes 7.6.8):
+    /// little-endian, they are the body of a key payload of kind 1; big-endian, a key hash is made
+    /// of them (DDSI-RTPS 9.6.4.8). None if the type has no key members.
+    ///
+    /// `Malformed` if the value is none of the type, as one that another catalog has read may be,
+    /// and `NoMemory` if memory is refused.
+    pub fn key_of_value(
+        &self,
+        alloc: Global,
+        order: Endian,
+        value: &DynamicData,
+    ) -> Result<Vec<u8>, CatalogError>
+        ensures { Gives (λ v. v.items) result
+            (value_key (topic_type self.now.topic) order (kept value.now)) }
+    {
+        let mut copier = Copier::new(alloc, value.octets(), value.form().endian, order);
+        let version = value.form().version;
+        match copy_topic_key(self.topic.types(), self.topic.id(), version, &mut copier) {
+            Ok(()) => Ok(copier.finish()),
+            Err(error) => Err(error),
+        }
+    }
+
+    /// Returns the octets of the key in the body of a key payload, in version 1 and a byte order.
+    /// `kind` is the encapsulation kind.
+    ///
+    /// `Encapsulation` if the kind is none that [`Form::of_kind`] knows, `Malformed` if the body
+    /// doesn't begin with a key of the type, and `NoMemory` if memory is refused.
+    pub fn key_of_payload(
+        &self,
+        alloc: Global,
+        order: Endian,
+        kind: u16,
+        body: &[u8],
+    ) -> Result<Vec<u8>, CatalogError>
+        ensures { Gives (λ v. v.items) result
+            (payload_key (topic_type self.now.topic) order kind body.now) }
+    {
+        let Some(form) = Form::of_kind(kind) else {
+            return Err(CatalogError::Unread(Unread::Encapsulation));
+        };
+        let mut copier = Copier::new(alloc, body, form.endian, order);
+        match copy_payload_key(
+            self.topic.types(),
+            self.topic.id(),
+            form.version,
+            &mut copier,
+        ) {
+            Ok(()) => Ok(copier.finish()),
+            Err(error) => Err(error),
         }
     }
 }

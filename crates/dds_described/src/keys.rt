@@ -4,10 +4,10 @@
 ghost use Rattle.std.specs.Prelude.{◌≡◌, ◌<◌, ◌&&◌, not, List, length};
 ghost use Rattle.std.specs.List.{All};
 ghost use Rattle.dds_topic.specs.Answer.{Gives};
-ghost use Rattle.dds_xcdr.specs.Types.{fields_in, type_in, types_of};
+ghost use Rattle.dds_xcdr.specs.Types.{fields_in, meant, type_in, types_of};
 ghost use Rattle.dds_xcdr.specs.Xtype.{Xtype};
-ghost use Rattle.dds_described.specs.Copying.{copied, fields_copied, holder_member_copied, key_copied, key_fields_copied, key_member_copied};
-ghost use Rattle.dds_described.specs.Key.{has_key, holder, kept_fields};
+ghost use Rattle.dds_described.specs.Copying.{copied, fields_copied, holder_member_copied, key_copied, key_fields_copied, key_member_copied, topic_key_copied};
+ghost use Rattle.dds_described.specs.Key.{has_key, holder, is_keyed, kept_fields, key_type};
 
 use crate::copier::Copier;
 use crate::copying::copy;
@@ -161,5 +161,51 @@ fn copy_holder_member(
         Ok(())
     } else {
         copy_holder(types, of, version, copier)
+    }
+}
+
+/// Whether a topic of a type has a key.
+fn is_keyed(node: &Node) -> bool
+    ensures { (types : List Xtype) → result ≡ is_keyed (meant types node.now) }
+{
+    match node {
+        Node::Struct(members) => has_key(members.as_slice()),
+        _ => false,
+    }
+}
+
+/// Copies the key of a topic of this type, where a value is.
+pub(crate) fn copy_topic_key(
+    types: &Types,
+    of: TypeId,
+    version: Version,
+    copier: &mut Copier<'_>,
+) -> Result<(), CatalogError>
+    requires { of.0 < length types.now }
+    ensures { Gives (λ _. copier.new) result
+        (topic_key_copied version (type_in (types_of types.now) of) copier.old) }
+{
+    if is_keyed(types.node(of)) {
+        copy_key(types, of, version, copier)
+    } else {
+        copier.pass(types, of, version)
+    }
+}
+
+/// Copies the key of a topic of this type, where nothing else is.
+pub(crate) fn copy_payload_key(
+    types: &Types,
+    of: TypeId,
+    version: Version,
+    copier: &mut Copier<'_>,
+) -> Result<(), CatalogError>
+    requires { of.0 < length types.now }
+    ensures { Gives (λ _. copier.new) result
+        (copied version (key_type (type_in (types_of types.now) of)) copier.old) }
+{
+    if is_keyed(types.node(of)) {
+        copy_holder(types, of, version, copier)
+    } else {
+        Ok(())
     }
 }

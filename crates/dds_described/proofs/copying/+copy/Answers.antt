@@ -1,6 +1,4 @@
 use Rattle.std.proofs.Common.{◌∙◌, refl, sym, ap, List, length}
-use Rattle.rtps_types.specs.declared.field.Endian.{Endian}
-use Rattle.rtps_cdr.specs.Reading.{Cursor}
 use Rattle.dds_xcdr.specs.declared.node.Node.TheVariants as node
 use Rattle.dds_xcdr.specs.Types.{type_in, types_of}
 use Rattle.dds_xcdr.specs.Xcdr.{has_header}

@@ -1,4 +1,4 @@
-use Rattle.std.proofs.Common.{◌∙◌, refl, sym, ap, List}
+use Rattle.std.proofs.Common.{sym, List}
 use Rattle.dds_xcdr.specs.declared.node.Node.TheVariants as node
 use Rattle.dds_xcdr.specs.Types.{fields_in, type_in, types_of}
 use Rattle.dds_xcdr.specs.Xtype.{Xtype}
