@@ -10,6 +10,8 @@ mod described;
 mod keys;
 pub mod laws;
 mod source;
+#[cfg(test)]
+mod tests;
 
 pub use data::DynamicData;
 pub use described::Described;
