@@ -1,4 +1,4 @@
-//! The catalog of a described type.
+//! Topics of described types.
 
 ghost use Rattle.std.specs.Prelude.{◌≡◌, ◌↔◌, ℕ, List, None, Err, IfOk, IsErrOf, Ok};
 ghost use Rattle.dds_topic.specs.Answer.{Gives};
@@ -17,14 +17,24 @@ use dds_xcdr::{Form, TopicType};
 use rtps_types::Endian;
 use std::alloc::Global;
 
-/// The catalog of a topic whose type is described at run time.
+/// A topic whose type is described at run time.
+///
+/// # Example
+///
+/// ```
+/// // struct Pose { @key string<8> frame; double at[3]; }, as in the example of `Types`.
+/// let poses = Described::new(TopicType::new(types, pose)?);
+/// let value = poses.read(alloc, 7, body.as_slice())?; // A body of kind CDR2_LE.
+/// let key = poses.key_of_value(alloc, Endian::Little, &value)?;
+/// assert!(rt; key.as_slice() == b"\x02\0\0\0a\0".as_slice());
+/// ```
 #[derive(Drop)]
 pub struct Described {
     topic: TopicType,
 }
 
 impl Described {
-    /// Returns the catalog of a topic of this type.
+    /// Returns the topic of this type.
     pub fn new(topic: TopicType) -> Described
         ensures { result.topic ≡ topic }
     {

@@ -1,6 +1,8 @@
-//! The catalog of a topic whose type is described at run time ([`TopicType`](dds_xcdr::TopicType)).
+//! Values of topics whose type is described at run time ([`TopicType`](dds_xcdr::TopicType)).
 //!
-//! The octets of a body are looked through once, and those of the value are kept.
+//! The octets of a body are looked through once, and those of the value are kept. The key of a
+//! value, or of a key payload, is written in version 1 whatever form it came in, so that it has one
+//! hash.
 #![tactic(auto)]
 
 mod copier;

@@ -4,6 +4,7 @@ mod peer;
 
 use crate::Described;
 use dds_topic::{CatalogError, Unread};
+use dds_xcdr::{Dimensions, Member, Primitive, TopicType, Types};
 use peer::{EMP, K1, K3, K4, K6, NUM, Written, emp, k1, k3, k4, k6, num};
 use rtps_types::Endian;
 use std::alloc::Global;
@@ -109,5 +110,38 @@ fn what_is_not_read_has_a_name(rt: HostRuntime) -> Result<(), Fail> {
     let other = k4(alloc)?.read(alloc, kind, body.as_slice())?;
     let key = catalog.key_of_value(alloc, Endian::Big, &other);
     assert!(rt; key.err() == Some(MALFORMED));
+    Ok(())
+}
+
+/// The example of [`Described`], with a body that was written by hand: a name of one letter with its
+/// NUL, two octets of padding, and three numbers.
+#[test]
+fn the_example_runs(rt: HostRuntime) -> Result<(), Fail> {
+    let alloc = rt.alloc();
+    let mut types = Types::new(alloc);
+    let frame = types.text(8)?;
+    let double = types.primitive(Primitive::Double)?;
+    let at = types.array(double, Dimensions::new(vec![in alloc; 3]?)?)?;
+    let members = vec![in alloc;
+        Member {
+            name: String::from_str(alloc, "frame")?,
+            of: frame,
+            is_key: true
+        },
+        Member {
+            name: String::from_str(alloc, "at")?,
+            of: at,
+            is_key: false
+        },
+    ]?;
+    let pose = types.structure(members)?;
+    let poses = Described::new(TopicType::new(types, pose)?);
+    let body = hex::decode(
+        alloc,
+        "0200000061000000000000000000f03f00000000000000400000000000000840",
+    )?;
+    let value = poses.read(alloc, 7, body.as_slice())?;
+    let key = poses.key_of_value(alloc, Endian::Little, &value)?;
+    assert!(rt; key.as_slice() == b"\x02\0\0\0a\0".as_slice());
     Ok(())
 }
