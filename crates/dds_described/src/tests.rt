@@ -5,7 +5,7 @@ mod peer;
 use crate::Described;
 use dds_topic::{CatalogError, Unread};
 use dds_xcdr::{Dimensions, Member, Primitive, TopicType, Types};
-use peer::{EMP, K1, K3, K4, K6, NUM, Written, emp, k1, k3, k4, k6, num};
+use peer::{EMP, ENUM_SEQ, K1, K3, K4, K6, NUM, Written, emp, enum_seq, k1, k3, k4, k6, num};
 use rtps_types::Endian;
 use std::alloc::Global;
 use std::test::Fail;
@@ -94,6 +94,27 @@ fn keys_of_a_peer_are_read(rt: HostRuntime) -> Result<(), Fail> {
     assert!(rt; reads_key(alloc, &k4(alloc)?, K4)?);
     assert!(rt; reads_key(alloc, &k6(alloc)?, K6)?);
     assert!(rt; reads_key(alloc, &emp(alloc)?, EMP)?);
+    Ok(())
+}
+
+/// A key of all members is the value in version 1, as the peer wrote it.
+#[test]
+fn version_2_is_written_as_version_1(rt: HostRuntime) -> Result<(), Fail> {
+    let alloc = rt.alloc();
+    let catalog = enum_seq(alloc)?;
+    let (kind, mut body) = parts(alloc, ENUM_SEQ[1])?;
+    let (_, wanted) = parts(alloc, ENUM_SEQ[0])?;
+    let value = catalog.read(alloc, kind, body.as_slice())?;
+    let key = catalog.key_of_value(alloc, Endian::Little, &value)?;
+    assert!(rt; key.as_slice() == wanted.as_slice());
+    let again = catalog.key_of_payload(alloc, Endian::Little, kind, body.as_slice())?;
+    assert!(rt; again.as_slice() == wanted.as_slice());
+    // The header counts one octet less than its items have.
+    if let Some(first) = body.first_mut() {
+        *first = 11;
+    }
+    let cut = catalog.key_of_payload(alloc, Endian::Little, kind, body.as_slice());
+    assert!(rt; cut.err() == Some(MALFORMED));
     Ok(())
 }
 

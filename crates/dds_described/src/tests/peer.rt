@@ -2,7 +2,7 @@
 //! with the encapsulation header.
 
 use crate::Described;
-use dds_xcdr::{Member, Primitive, TopicType, TypeId, Types};
+use dds_xcdr::{Case, Dimensions, Member, Primitive, TopicType, TypeId, Types};
 use std::alloc::Global;
 use std::test::Fail;
 
@@ -76,6 +76,17 @@ pub const EMP: Written = Written {
     key: "00070000",
     hash: "",
 };
+
+/// `enum Color { RED, GREEN, BLUE }; struct EnumSeq { sequence<Color> c; Color ar[2];
+/// sequence<boolean> b; boolean f; long after; sequence<sequence<octet> > ss; };` of green and
+/// blue, red and blue, true, false and true, true, 9, and two sequences: 1, 2 and 3, and none. In
+/// version 1, and in version 2.
+pub const ENUM_SEQ: [&str; 2] = [
+    "00010000020000000100000002000000000000000200000003000000010001010900000002000000030000000102\
+     030000000000",
+    "000700000c0000000200000001000000020000000800000000000000020000000300000001000101090000001000\
+     000002000000030000000102030000000000",
+];
 
 /// Adds a struct of these members.
 fn structure(
@@ -175,6 +186,37 @@ pub fn emp(alloc: Global) -> Result<Described, Fail> {
     let text = types.text(0)?;
     let texts = types.sequence(text, 0)?;
     let members = [("a", longs, false), ("b", texts, false), ("s", text, false)];
+    let of = structure(alloc, &mut types, &members)?;
+    Ok(Described::new(TopicType::new(types, of)?))
+}
+
+/// The catalog of [`ENUM_SEQ`], with all members in its key.
+pub fn enum_seq(alloc: Global) -> Result<Described, Fail> {
+    let mut types = Types::new(alloc);
+    let mut cases = Vec::new(alloc);
+    for (name, value) in [("RED", 0), ("GREEN", 1), ("BLUE", 2)] {
+        cases.push(Case {
+            name: String::from_str(alloc, name)?,
+            value,
+        })?;
+    }
+    let color = types.enumeration(cases)?;
+    let colors = types.sequence(color, 0)?;
+    let two = types.array(color, Dimensions::new(vec![in alloc; 2]?)?)?;
+    let boolean = types.primitive(Primitive::Boolean)?;
+    let truths = types.sequence(boolean, 0)?;
+    let long = types.primitive(Primitive::Int32)?;
+    let octet = types.primitive(Primitive::Octet)?;
+    let octets = types.sequence(octet, 0)?;
+    let rows = types.sequence(octets, 0)?;
+    let members = [
+        ("c", colors, true),
+        ("ar", two, true),
+        ("b", truths, true),
+        ("f", boolean, true),
+        ("after", long, true),
+        ("ss", rows, true),
+    ];
     let of = structure(alloc, &mut types, &members)?;
     Ok(Described::new(TopicType::new(types, of)?))
 }
