@@ -48,4 +48,13 @@ impl Dimensions {
     {
         self.sizes.as_slice()
     }
+
+    /// Returns how many items the array has in all.
+    pub fn count(&self) -> u32
+        ensures count { result ≡ self.now.count }
+        ensures product { result ≡ product self.now.sizes.items }
+        ensures some { 0 < result }
+    {
+        self.count
+    }
 }

@@ -30,3 +30,4 @@ pub use primitive::Primitive;
 pub use topic_type::TopicType;
 pub use types::Types;
 pub use version::Version;
+pub use walk::{has_header, skip};

@@ -39,7 +39,7 @@ pub enum Primitive {
 impl Primitive {
     /// Returns the number of octets of the numbers that values are encoded as; `None` for a truth
     /// value, of which not every octet is one.
-    pub(crate) fn number_size(self) -> Option<usize>
+    pub fn number_size(self) -> Option<usize>
         ensures size { result ≡ number_size (plain self) }
         ensures sized { IfSome result IsSize }
     {

@@ -42,6 +42,21 @@ impl TopicType {
         }
     }
 
+    /// Returns the types.
+    pub fn types(&self) -> &Types
+        ensures { result.now ≡ self.now.types }
+    {
+        &self.types
+    }
+
+    /// Returns the id of the type of the topic among its types.
+    pub fn id(&self) -> TypeId
+        ensures is { result ≡ self.now.of }
+        ensures there { result.0 < length self.now.types }
+    {
+        self.of
+    }
+
     /// Looks for a value of the type at the front of the body of a sample, and returns how many
     /// octets it takes. `kind` is the encapsulation kind (DDSI-RTPS 10.2), and the body what
     /// follows the encapsulation header. Octets may follow the value.

@@ -231,8 +231,9 @@ impl Types {
         self.add(Node::Struct(members))
     }
 
-    /// Returns the description of a type.
-    pub(crate) fn node(&self, id: TypeId) -> &Node
+    /// Returns the description of a type. The types that it names have lower places, so what goes
+    /// from a type to those that it names comes to an end.
+    pub fn node(&self, id: TypeId) -> &Node
         requires { id.0 < length self.now }
         ensures meant { meant (types_of self.now) result.now ≡ type_in (types_of self.now) id }
         ensures below { NamesBelow id.0 result.now }

@@ -125,8 +125,9 @@ fn number_size(of: &Node) -> Option<usize>
     }
 }
 
-/// Whether a header comes before items of a type.
-fn has_header(version: Version, item: &Node) -> bool
+/// Whether a header that counts octets comes before the items of a collection, by the type of the items
+/// (DDS-XTypes 7.4.3.5.3).
+pub fn has_header(version: Version, item: &Node) -> bool
     ensures { (types : List Xtype) → result ≡ has_header version (meant types item.now) }
 {
     match version {
@@ -135,9 +136,13 @@ fn has_header(version: Version, item: &Node) -> bool
     }
 }
 
-/// Passes over a value of a type.
+/// Passes over a value of a type, in a version and in the byte order of the reader. `of` has to name
+/// one of the types.
+///
+/// After a fault, which is one of those of [`TopicType::look_through`](crate::TopicType), the reader
+/// is somewhere behind the first octet of what is no value. No memory is taken.
 #[cycle(walk)]
-pub(crate) fn skip(
+pub fn skip(
     types: &Types,
     of: TypeId,
     version: Version,

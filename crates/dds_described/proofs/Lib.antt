@@ -1,0 +1,7 @@
+pub mod Fronts
+pub mod Finds
+pub mod Values
+pub mod Sources
+pub mod Copies
+pub mod KeyParts
+pub mod TopicKeys

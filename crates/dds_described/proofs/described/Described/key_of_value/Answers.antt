@@ -1,0 +1,31 @@
+use Rattle.dds_xcdr.specs.TopicType.{topic_type}
+use Rattle.dds_described.specs.Kept.{kept}
+use Rattle.dds_described.proofs.TopicKeys.{value_key_fails, value_key_is}
+use Rattle.dds_described.proofs.described.Described.key_of_value.Goals as goal
+
+pub returns-in-Ok : goal.returns-in-Ok
+returns-in-Ok c =
+    rw (c.finish.ensures)
+    (value_key_is (topic_type c.args.self.now.topic) (kept c.args.value.now) c.args.order
+    c.copy_topic_key.new.copier
+    (rw (
+      c.types.ensures,
+      c.id.ensures.is,
+      c.new-copier.ensures,
+      c.octets.ensures,
+      c.form.ensures,
+      c.form-version.ensures,
+    ) at (c.in-Ok.ensures)))
+
+pub returns-in-Err : goal.returns-in-Err
+returns-in-Err c =
+    value_key_fails (topic_type c.args.self.now.topic) (kept c.args.value.now) c.args.order
+    c.in-Err.error
+    (rw (
+      c.types.ensures,
+      c.id.ensures.is,
+      c.new-copier.ensures,
+      c.octets.ensures,
+      c.form.ensures,
+      c.form-version.ensures,
+    ) at (c.in-Err.ensures))
