@@ -66,17 +66,17 @@ pub found : (at : ℕ) (rest : List ℕ) (w : Word) (behind left : List ℕ) (le
     → Found at rest w left
 found at rest w behind left len flen is_gap gap_is behind_is at_is front_is text_is left_is gap_len
     behind_len text_len left_len = record {
-  is = record {
-    behind_gap = gap_is ∙ ap (λ (n : ℕ). take n rest) is_gap;
-    place = at_is ∙ ap (λ (n : ℕ). at + n) is_gap;
-    whole = ap front (sym (behind_is ∙ ap (λ (n : ℕ). drop n rest) is_gap)) ∙ front_is
-        ∙ ap (λ (n : ℕ). Some (front_of w.kind n)) (sym text_len);
-    text = text_is ∙ (λ i. take (sym text_len i) ((behind_is ∙ ap (λ (n : ℕ). drop n rest) is_gap) i));
-  };
-  behind = left_is ∙ (λ i. drop (sym text_len i) ((behind_is ∙ ap (λ (n : ℕ). drop n rest) is_gap) i));
-  ends = omega arith;
-  moves = λ some. let some_len : 0 < flen = front_moves behind (front_of w.kind flen) front_is some in omega arith;
-}
+      is = record {
+        behind_gap = gap_is ∙ ap (λ (n : ℕ). take n rest) is_gap;
+        place = at_is ∙ ap (λ (n : ℕ). at + n) is_gap;
+        whole = ap front (sym (behind_is ∙ ap (λ (n : ℕ). drop n rest) is_gap)) ∙ front_is
+            ∙ ap (λ (n : ℕ). Some (front_of w.kind n)) (sym text_len);
+        text = text_is ∙ (λ i. take (sym text_len i) ((behind_is ∙ ap (λ (n : ℕ). drop n rest) is_gap) i));
+      };
+      behind = left_is ∙ (λ i. drop (sym text_len i) ((behind_is ∙ ap (λ (n : ℕ). drop n rest) is_gap) i));
+      ends = omega arith;
+      moves = λ some. let some_len : 0 < flen = front_moves behind (front_of w.kind flen) front_is some in omega arith;
+    }
 
 -- the words before an offset of a text, and what is left behind it
 unfoldable pub WordsBefore : List ℕ → List Word → ℕ → List ℕ → Type 0

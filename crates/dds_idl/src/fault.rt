@@ -3,6 +3,7 @@
 ghost use Rattle.std.specs.Prelude.{◌≡◌};
 ghost use Rattle.dds_idl.specs.declared.fault.IdlFault.TheVariants as faults;
 
+use dds_xcdr::TypeFault;
 use std::alloc::AllocError;
 
 /// Why a text is refused.
@@ -16,8 +17,63 @@ pub enum IdlFault {
     OpenLiteral,
     /// A character begins no word.
     BadCharacter,
+    /// A word isn't what IDL has there.
+    Unexpected,
+    /// A name should stand here, and a keyword is none.
+    NoName,
+    /// A name has more than 255 letters.
+    LongName,
+    /// Modules are nested more than 32 deep.
+    DeepModules,
+    /// A module doesn't end in the text that begins it.
+    OpenModule,
+    /// A name is declared already, in this case or in another.
+    Twice,
+    /// A name isn't declared, or only in another case.
+    NotDeclared,
+    /// A name is declared, and isn't that of a type.
+    NotAType,
+    /// A type is used before its body ends, so it would contain itself.
+    ContainsItself,
+    /// This part of IDL isn't read here.
+    Unsupported,
+    /// An annotation isn't known, or would change octets in a way that isn't read here.
+    Annotation,
+    /// A number isn't one, or is too large.
+    BadNumber,
+    /// A bound or a size isn't a number from 1 to 2^32 - 1.
+    BadBound,
+    /// An array or a struct isn't one that is described.
+    Type(TypeFault),
     /// Memory was refused.
     NoMemory,
+}
+
+impl IdlFault {
+    /// Returns what is said of a word: what stands before it, and what behind it.
+    pub(crate) fn parts(self) -> (&'static str, &'static str) {
+        match self {
+            IdlFault::NotUtf8 => ("the text isn't UTF-8", ""),
+            IdlFault::OpenComment => ("the comment doesn't end", ""),
+            IdlFault::OpenLiteral => ("the literal doesn't end on its line", ""),
+            IdlFault::BadCharacter => ("no word begins so", ""),
+            IdlFault::Unexpected => ("'", "' isn't expected"),
+            IdlFault::NoName => ("a name is expected before '", "'"),
+            IdlFault::LongName => ("the name '", "' is too long"),
+            IdlFault::DeepModules => ("the module '", "' is nested too deeply"),
+            IdlFault::OpenModule => ("a module doesn't end", ""),
+            IdlFault::Twice => ("the name '", "' is declared already"),
+            IdlFault::NotDeclared => ("the type '", "' isn't declared"),
+            IdlFault::NotAType => ("'", "' isn't a type"),
+            IdlFault::ContainsItself => ("the type '", "' contains itself"),
+            IdlFault::Unsupported => ("'", "' isn't supported"),
+            IdlFault::Annotation => ("the annotation '", "' isn't supported"),
+            IdlFault::BadNumber => ("'", "' isn't a number that fits"),
+            IdlFault::BadBound => ("'", "' isn't a bound from 1 to 4294967295"),
+            IdlFault::Type(_) => ("the type of '", "' isn't described: "),
+            IdlFault::NoMemory => ("no memory is left", ""),
+        }
+    }
 }
 
 impl From<AllocError> for IdlFault {

@@ -2,11 +2,12 @@
 
 ghost use Rattle.std.specs.Prelude.{◌≡◌, ◌≤◌, ◌<◌, ◌+◌, ◌^◌, false, drop, length, IfErr, IfOk, IsUtf8};
 ghost use Rattle.dds_idl.specs.Words.{AreWords, Found, begins_name, front, is_numeric, is_wordy, literal_end, run};
+ghost use Rattle.dds_idl.specs.declared.fault.IdlFault.TheVariants as faults;
 
 use crate::IdlFault;
 use crate::gap::{first_octet, gap_of};
 use crate::word::{Kind, Word};
-use std::alloc::Global;
+use std::alloc::{AllocError, AllocFailed, Global};
 
 /// The front of a text that is a word.
 #[derive(Clone, Copy, Debug)]
@@ -74,7 +75,7 @@ fn literal_len(text: &[u8], quote: u8) -> Option<usize>
 
 /// Returns the word at the front of a text; `None` where none begins, or a literal doesn't end on
 /// its line.
-fn front_of(text: &[u8]) -> Option<Front>
+pub(crate) fn front_of(text: &[u8]) -> Option<Front>
     ensures { result ≡ front text.now }
 {
     let Some((first, rest)) = text.split_first() else {
@@ -125,6 +126,26 @@ fn front_of(text: &[u8]) -> Option<Front>
 pub(crate) struct Fault {
     pub(crate) at: usize,
     pub(crate) what: IdlFault,
+}
+
+impl From<AllocError> for Fault {
+    ghost from_gives = { λ _ fault. fault.what ≡ faults.NoMemory };
+
+    fn from(_: AllocError) -> Fault {
+        Fault {
+            at: 0,
+            what: IdlFault::NoMemory,
+        }
+    }
+}
+
+impl<T: Drop> From<AllocFailed<T>> for Fault {
+    fn from(_: AllocFailed<T>) -> Fault {
+        Fault {
+            at: 0,
+            what: IdlFault::NoMemory,
+        }
+    }
 }
 
 /// Why no word begins at the front of a text.

@@ -1,0 +1,76 @@
+//! What some texts declare.
+
+ghost use Rattle.std.specs.Prelude.{◌<◌, IfSome, length};
+
+use dds_xcdr::{TypeId, Types};
+use std::alloc::{AllocError, Global};
+use std::collections::{BTreeMap, BTreeSet};
+
+/// What a name stands for.
+#[derive(Clone, Copy, Debug, PartialEq, Eq)]
+pub(crate) enum Meaning {
+    Module,
+    /// A struct whose body hasn't ended.
+    Unfinished,
+    Type(TypeId),
+    /// A constant that is a whole number.
+    Number(i64),
+    /// A constant of another type, or a value of an enumeration.
+    Value,
+}
+
+/// A struct whose values may be those of a topic.
+#[derive(Debug, Drop)]
+pub struct Topic {
+    /// The full name of the struct, as `nav_msgs::msg::dds_::Odometry_`.
+    pub name: String,
+    /// The type.
+    pub of: TypeId,
+}
+
+/// The types that texts declare, by their names.
+#[derive(Drop)]
+pub struct Declarations {
+    pub(crate) types: Types,
+    pub(crate) names: BTreeMap<String, Meaning>,
+    /// The names in lower case, in which they have to differ.
+    pub(crate) lowered: BTreeSet<String>,
+    pub(crate) topics: Vec<Topic>,
+}
+
+impl Declarations {
+    pub(crate) fn new(alloc: Global) -> Declarations {
+        Declarations {
+            types: Types::new(alloc),
+            names: BTreeMap::new(alloc),
+            lowered: BTreeSet::new(alloc),
+            topics: Vec::new(alloc),
+        }
+    }
+
+    /// Returns the type of a full name, as `nav_msgs::msg::dds_::Odometry_`: of a struct, an
+    /// enumeration or a typedef. `None` if no type has the name, in this case of its letters.
+    pub fn find(&self, name: &str) -> Option<TypeId>
+        ensures { IfSome result (λ id. id.0 < length self.now.types) }
+    {
+        match self.names.get(name) {
+            Some(Meaning::Type(id)) if self.types.contains(*id) => Some(*id),
+            _ => None,
+        }
+    }
+
+    /// Returns the structs that aren't `@nested`, in order of declaration.
+    pub fn topics(&self) -> &[Topic] {
+        self.topics.as_slice()
+    }
+
+    /// Returns the types, among which are those that are found by name.
+    pub fn types(&self) -> &Types {
+        &self.types
+    }
+
+    /// Gives the types away.
+    pub fn into_types(self) -> Types {
+        self.types
+    }
+}
