@@ -1,3 +1,4 @@
 pub mod Gap
 pub mod Words
 pub mod Place
+pub mod Operator

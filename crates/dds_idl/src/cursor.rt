@@ -50,6 +50,14 @@ impl<'w> Cursor<'w> {
         self.word().text == spelling
     }
 
+    /// Whether the next word and the one behind it have one spelling, with nothing between them.
+    pub(crate) fn is_doubled(&self) -> bool {
+        match self.words.get(self.at..) {
+            Some([first, second, ..]) => second.gap.is_empty() && second.text == first.text,
+            _ => false,
+        }
+    }
+
     /// Takes the next word if it has a spelling, and returns whether it has.
     pub(crate) fn take(&mut self, spelling: &str) -> bool {
         let is = self.is(spelling);

@@ -2,6 +2,7 @@
 
 use crate::IdlFault;
 use crate::annotations::{Marks, Place, annotations};
+use crate::constants::Ends;
 use crate::cursor::Cursor;
 use crate::declarations::{Meaning, Topic};
 use crate::draft::{Draft, lowered, placed};
@@ -16,6 +17,25 @@ struct Members {
     made: Vec<Member>,
     /// Their names in lower case, in which they have to differ.
     lowered: BTreeSet<String>,
+}
+
+/// Whether a word begins the type of whole numbers.
+fn is_whole(word: &str) -> bool {
+    matches!(
+        word,
+        "octet"
+            | "int8"
+            | "uint8"
+            | "short"
+            | "int16"
+            | "uint16"
+            | "long"
+            | "int32"
+            | "uint32"
+            | "int64"
+            | "uint64"
+            | "unsigned"
+    )
 }
 
 impl Draft {
@@ -115,14 +135,63 @@ impl Draft {
         Ok(())
     }
 
-    /// Takes a constant, behind that word.
+    /// Takes a literal that is no whole number, or a name.
+    fn literal(&mut self, cursor: &mut Cursor<'_>) -> Result<(), Fault> {
+        if !cursor.take("-") {
+            cursor.take("+");
+        }
+        let word = cursor.word();
+        match word.kind {
+            Kind::Text => {
+                for _ in 0..cursor.len() {
+                    if cursor.word().kind != Kind::Text {
+                        break;
+                    }
+                    cursor.advance();
+                }
+                Ok(())
+            }
+            Kind::Number => {
+                cursor.advance();
+                let is_open = word.text.ends_with('e') || word.text.ends_with('E');
+                if is_open && (cursor.take("-") || cursor.take("+")) {
+                    cursor.advance();
+                }
+                Ok(())
+            }
+            Kind::Character => {
+                cursor.advance();
+                Ok(())
+            }
+            _ if cursor.is("TRUE") || cursor.is("FALSE") => {
+                cursor.advance();
+                Ok(())
+            }
+            _ => match self.resolve(cursor)? {
+                Meaning::Number(_) | Meaning::Value => Ok(()),
+                Meaning::Module | Meaning::Unfinished | Meaning::Type(_) => Err(Fault {
+                    at: word.at,
+                    what: IdlFault::Unexpected,
+                }),
+            },
+        }
+    }
+
+    /// Takes a constant, behind that word. Of those that are no whole numbers the value isn't
+    /// kept.
     fn constant(&mut self, cursor: &mut Cursor<'_>) -> Result<(), Fault> {
+        let is_whole = is_whole(cursor.word().text);
         self.used(cursor)?;
         let word = cursor.word();
         let name = cursor.name()?;
         cursor.want("=")?;
-        let number = self.operand(cursor)?;
-        self.declare(word, name, Meaning::Number(number))
+        let of = if is_whole {
+            Meaning::Number(self.number(cursor, Ends::Other)?)
+        } else {
+            self.literal(cursor)?;
+            Meaning::Value
+        };
+        self.declare(word, name, of)
     }
 
     /// Takes a definition that is no module.

@@ -36,7 +36,11 @@ impl fmt::Display for IdlError {
         let column = self.column;
         write!(f, "{name}:{line}:{column}: {before}")?;
         if !after.is_empty() {
-            let word = self.word.as_str();
+            let word = if self.word.is_empty() {
+                "the end"
+            } else {
+                self.word.as_str()
+            };
             write!(f, "{word}{after}")?;
         }
         if let IdlFault::Type(fault) = self.what {

@@ -41,6 +41,8 @@ pub enum IdlFault {
     Annotation,
     /// A number isn't one, or is too large.
     BadNumber,
+    /// An operator gives no number of 64 bits, or a divisor is 0.
+    Arithmetic,
     /// A bound or a size isn't a number from 1 to 2^32 - 1.
     BadBound,
     /// An array or a struct isn't one that is described.
@@ -69,6 +71,7 @@ impl IdlFault {
             IdlFault::Unsupported => ("'", "' isn't supported"),
             IdlFault::Annotation => ("the annotation '", "' isn't supported"),
             IdlFault::BadNumber => ("'", "' isn't a number that fits"),
+            IdlFault::Arithmetic => ("'", "' gives no number of 64 bits"),
             IdlFault::BadBound => ("'", "' isn't a bound from 1 to 4294967295"),
             IdlFault::Type(_) => ("the type of '", "' isn't described: "),
             IdlFault::NoMemory => ("no memory is left", ""),

@@ -11,6 +11,7 @@ mod error;
 mod fault;
 mod gap;
 mod keywords;
+mod operator;
 mod read;
 mod source;
 #[cfg(test)]

@@ -1,6 +1,7 @@
 //! Types where they are used.
 
 use crate::IdlFault;
+use crate::constants::Ends;
 use crate::cursor::Cursor;
 use crate::declarations::Meaning;
 use crate::draft::{Draft, placed};
@@ -96,7 +97,7 @@ impl Draft {
         if cursor.take("string") {
             let mut bound = 0;
             if cursor.take("<") {
-                bound = self.bound(cursor)?;
+                bound = self.bound(cursor, Ends::Angle)?;
                 cursor.want(">")?;
             }
             return placed(word.at, self.made.types.text(bound));
@@ -124,7 +125,7 @@ impl Draft {
         let mut of = self.item(cursor)?;
         for _ in 0..open {
             let bound = if cursor.take(",") {
-                self.bound(cursor)?
+                self.bound(cursor, Ends::Angle)?
             } else {
                 0
             };
@@ -143,7 +144,7 @@ impl Draft {
             if !cursor.take("[") {
                 break;
             }
-            sizes.push(self.bound(cursor)?)?;
+            sizes.push(self.bound(cursor, Ends::Other)?)?;
             cursor.want("]")?;
         }
         if sizes.is_empty() {
