@@ -50,6 +50,8 @@ struct Expression {
     numbers: Vec<i64>,
     /// What waits for a number, with its place.
     waiting: Vec<(Waiting, usize)>,
+    /// How many parentheses are open.
+    open: usize,
 }
 
 /// Where an expression stands.
@@ -66,14 +68,8 @@ impl Expression {
         Expression {
             numbers: Vec::new(alloc),
             waiting: Vec::new(alloc),
+            open: 0,
         }
-    }
-
-    /// Whether a parenthesis is open.
-    fn is_open(&self) -> bool {
-        self.waiting
-            .iter()
-            .any(|waiting| waiting.0 == Waiting::Parenthesis)
     }
 
     /// Computes what waits last.
@@ -133,6 +129,9 @@ impl Expression {
             };
             cursor.advance();
             self.wait(waiting, word.at)?;
+            if waiting == Waiting::Parenthesis {
+                self.open = self.open.saturating_add(1);
+            }
         }
         Ok(())
     }
@@ -140,12 +139,13 @@ impl Expression {
     /// Takes the parentheses that end behind a number.
     fn parentheses(&mut self, cursor: &mut Cursor<'_>) -> Result<(), Fault> {
         for _ in 0..cursor.len() {
-            if !cursor.is(")") || !self.is_open() {
+            if !cursor.is(")") || self.open == 0 {
                 break;
             }
             cursor.advance();
             self.reduce(1)?;
             self.waiting.pop();
+            self.open = self.open.saturating_sub(1);
         }
         Ok(())
     }
@@ -167,7 +167,7 @@ impl Expression {
         };
         match infix {
             Infix::Left | Infix::Right => {
-                let is_end = infix == Infix::Right && ends == Ends::Angle && !self.is_open();
+                let is_end = infix == Infix::Right && ends == Ends::Angle && self.open == 0;
                 if is_end || !cursor.is_doubled() {
                     return None;
                 }

@@ -5,9 +5,6 @@ use crate::keywords::is_keyword;
 use crate::word::{Kind, Word};
 use crate::words::Fault;
 
-/// The longest name that is read. A type's name is at most this long on the wire of most peers.
-const LONGEST_NAME: usize = 255;
-
 /// Words, of which those before a place were taken.
 #[derive(Drop)]
 pub(crate) struct Cursor<'w> {
@@ -85,14 +82,11 @@ impl<'w> Cursor<'w> {
     }
 
     /// Takes a name, and returns it without the `_` that escapes it (IDL 4.2, 7.2.3.2). `NoName`
-    /// if the next word is none, `LongName` if it has more than 255 letters.
+    /// if the next word is none.
     pub(crate) fn name(&mut self) -> Result<&'w str, Fault> {
         let word = self.word();
         if word.kind != Kind::Name || is_keyword(word.text) {
             return Err(self.fault(IdlFault::NoName));
-        }
-        if word.text.len() > LONGEST_NAME {
-            return Err(self.fault(IdlFault::LongName));
         }
         self.advance();
         match word.text.strip_prefix('_') {

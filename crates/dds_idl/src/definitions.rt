@@ -5,6 +5,7 @@ use crate::annotations::{Marks, Place, annotations};
 use crate::constants::Ends;
 use crate::cursor::Cursor;
 use crate::declarations::{Meaning, Topic};
+use crate::directive::{Given, directive};
 use crate::draft::{Draft, lowered, placed};
 use crate::word::Kind;
 use crate::words::Fault;
@@ -89,9 +90,9 @@ impl Draft {
             self.members(cursor, &mut members)?;
         }
         let of = placed(word.at, self.made.types.structure(members.made))?;
-        self.finish(name, of)?;
+        self.finish(word, name, of)?;
         if !marks.is_nested {
-            let name = self.full_name(name)?;
+            let name = self.full_name(word, name)?;
             self.made.topics.push(Topic { name, of })?;
         }
         Ok(())
@@ -218,7 +219,11 @@ impl Draft {
     }
 
     /// Takes all definitions of a text.
-    pub(crate) fn definitions(&mut self, cursor: &mut Cursor<'_>) -> Result<(), Fault> {
+    pub(crate) fn definitions(
+        &mut self,
+        cursor: &mut Cursor<'_>,
+        given: Given<'_>,
+    ) -> Result<(), Fault> {
         for _ in 0..cursor.len() {
             let word = cursor.word();
             if word.kind == Kind::End {
@@ -232,6 +237,10 @@ impl Draft {
                     });
                 }
                 cursor.want(";")?;
+                continue;
+            }
+            if cursor.take("#") {
+                directive(self.alloc, cursor, given)?;
                 continue;
             }
             let marks = annotations(cursor, Place::Definition)?;

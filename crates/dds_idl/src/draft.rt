@@ -8,11 +8,9 @@ use crate::words::Fault;
 use dds_xcdr::{Primitive, TypeFault, TypeId};
 use std::alloc::{AllocError, Global};
 
-/// How deep modules may be nested.
-const MOST_MODULES: usize = 32;
-
-/// More than a full name can have.
-const LONGEST_PATH: usize = 16_384;
+/// The longest full name: that of a type is announced as a text of at most 255 octets (DDSI-RTPS
+/// 9.6.3, PID_TYPE_NAME).
+const LONGEST_NAME: usize = 255;
 
 /// Declarations in the making.
 #[derive(Drop)]
@@ -71,15 +69,22 @@ impl Draft {
         }
     }
 
-    /// Returns the full name of what is declared now.
-    pub(crate) fn full_name(&self, name: &str) -> Result<String, AllocError> {
+    /// Returns the full name of what is declared now. `LongName` if it has more than 255 octets.
+    pub(crate) fn full_name(&self, word: Word<'_>, name: &str) -> Result<String, Fault> {
         let prefix = self.prefix();
-        format!(in self.alloc; "{prefix}{name}")
+        if prefix.len().saturating_add(name.len()) > LONGEST_NAME {
+            return Err(Fault {
+                at: word.at,
+                what: IdlFault::LongName,
+            });
+        }
+        let full = format!(in self.alloc; "{prefix}{name}")?;
+        Ok(full)
     }
 
     /// Declares a name here. `Twice` if it is declared already.
     pub(crate) fn declare(&mut self, word: Word<'_>, name: &str, of: Meaning) -> Result<(), Fault> {
-        let full = self.full_name(name)?;
+        let full = self.full_name(word, name)?;
         if !self
             .made
             .lowered
@@ -97,7 +102,7 @@ impl Draft {
     /// Begins the body of a struct. `Twice` if its name is declared already, and not as a struct
     /// whose body is to come.
     pub(crate) fn begin(&mut self, word: Word<'_>, name: &str) -> Result<(), Fault> {
-        let full = self.full_name(name)?;
+        let full = self.full_name(word, name)?;
         match self.made.names.get(full.as_str()) {
             Some(Meaning::Unfinished) => Ok(()),
             _ => self.declare(word, name, Meaning::Unfinished),
@@ -105,21 +110,15 @@ impl Draft {
     }
 
     /// Puts a type where its name was declared as one that isn't finished.
-    pub(crate) fn finish(&mut self, name: &str, of: TypeId) -> Result<(), Fault> {
-        let full = self.full_name(name)?;
+    pub(crate) fn finish(&mut self, word: Word<'_>, name: &str, of: TypeId) -> Result<(), Fault> {
+        let full = self.full_name(word, name)?;
         self.made.names.insert(full, Meaning::Type(of))?;
         Ok(())
     }
 
     /// Opens a module, which may have been open before.
     pub(crate) fn open(&mut self, word: Word<'_>, name: &str) -> Result<(), Fault> {
-        if self.prefixes.len() >= MOST_MODULES {
-            return Err(Fault {
-                at: word.at,
-                what: IdlFault::DeepModules,
-            });
-        }
-        let full = self.full_name(name)?;
+        let full = self.full_name(word, name)?;
         match self.made.names.get(full.as_str()) {
             Some(Meaning::Module) => {}
             _ => self.declare(word, name, Meaning::Module)?,
@@ -159,7 +158,7 @@ impl Draft {
             self.innermost(first)?
         };
         for _ in 0..cursor.len() {
-            if path.len() > LONGEST_PATH || !cursor.take("::") {
+            if path.len() > LONGEST_NAME || !cursor.take("::") {
                 break;
             }
             path.push_str("::")?;

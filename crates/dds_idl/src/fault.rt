@@ -21,10 +21,8 @@ pub enum IdlFault {
     Unexpected,
     /// A name should stand here, and a keyword is none.
     NoName,
-    /// A name has more than 255 letters.
+    /// A full name, with the modules that it is in, has more than 255 octets.
     LongName,
-    /// Modules are nested more than 32 deep.
-    DeepModules,
     /// A module doesn't end in the text that begins it.
     OpenModule,
     /// A name is declared already, in this case or in another.
@@ -39,6 +37,12 @@ pub enum IdlFault {
     Unsupported,
     /// An annotation isn't known, or would change octets in a way that isn't read here.
     Annotation,
+    /// A text is included that isn't given.
+    NotGiven,
+    /// A text is included that is given later, or is this one.
+    GivenLater,
+    /// `#pragma keylist`, for which `@key` stands here.
+    KeyList,
     /// A number isn't one, or is too large.
     BadNumber,
     /// An operator gives no number of 64 bits, or a divisor is 0.
@@ -62,7 +66,6 @@ impl IdlFault {
             IdlFault::Unexpected => ("'", "' isn't expected"),
             IdlFault::NoName => ("a name is expected before '", "'"),
             IdlFault::LongName => ("the name '", "' is too long"),
-            IdlFault::DeepModules => ("the module '", "' is nested too deeply"),
             IdlFault::OpenModule => ("a module doesn't end", ""),
             IdlFault::Twice => ("the name '", "' is declared already"),
             IdlFault::NotDeclared => ("the type '", "' isn't declared"),
@@ -70,6 +73,9 @@ impl IdlFault {
             IdlFault::ContainsItself => ("the type '", "' contains itself"),
             IdlFault::Unsupported => ("'", "' isn't supported"),
             IdlFault::Annotation => ("the annotation '", "' isn't supported"),
+            IdlFault::NotGiven => ("the text ", " isn't given"),
+            IdlFault::GivenLater => ("the text ", " has to be given before this one"),
+            IdlFault::KeyList => ("'", "' isn't supported: mark the members of a key by @key"),
             IdlFault::BadNumber => ("'", "' isn't a number that fits"),
             IdlFault::Arithmetic => ("'", "' gives no number of 64 bits"),
             IdlFault::BadBound => ("'", "' isn't a bound from 1 to 4294967295"),

@@ -6,6 +6,7 @@ mod constants;
 mod cursor;
 mod declarations;
 mod definitions;
+mod directive;
 mod draft;
 mod error;
 mod fault;

@@ -5,6 +5,7 @@ ghost use Rattle.dds_idl.specs.Place.{IsAPlace};
 ghost use Rattle.dds_idl.specs.declared.fault.IdlFault.TheVariants.{NoMemory};
 
 use crate::cursor::Cursor;
+use crate::directive::Given;
 use crate::draft::Draft;
 use crate::error::error_of;
 use crate::words::{Fault, words};
@@ -13,7 +14,7 @@ use std::alloc::Global;
 use std::str;
 
 /// Reads one text.
-fn read_text(draft: &mut Draft, source: &Source<'_>) -> Result<(), Fault> {
+fn read_text(draft: &mut Draft, given: Given<'_>, source: &Source<'_>) -> Result<(), Fault> {
     let text = match str::from_utf8(source.text) {
         Ok(text) => text,
         Err(error) => {
@@ -24,7 +25,7 @@ fn read_text(draft: &mut Draft, source: &Source<'_>) -> Result<(), Fault> {
         }
     };
     match words(draft.alloc, text) {
-        Ok(words) => draft.definitions(&mut Cursor::new(words.as_slice())),
+        Ok(words) => draft.definitions(&mut Cursor::new(words.as_slice()), given),
         Err(fault) => Err(fault),
     }
 }
@@ -36,7 +37,8 @@ pub fn parse(alloc: Global, sources: &[Source<'_>]) -> Result<Declarations, IdlE
 {
     let mut draft = Draft::new(alloc);
     for (index, source) in sources.iter().enumerate() {
-        match read_text(&mut draft, source) {
+        let (earlier, later) = sources.split_at(index);
+        match read_text(&mut draft, Given { earlier, later }, source) {
             Ok(()) => {}
             Err(fault) => return Err(error_of(alloc, index, source, fault)),
         }

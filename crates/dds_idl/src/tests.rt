@@ -55,9 +55,9 @@ fn values_of_a_peer_are_of_the_types(rt: HostRuntime) -> Result<(), Fail> {
 fn types_of_several_texts_are_found(rt: HostRuntime) -> Result<(), Fail> {
     let alloc = rt.alloc();
     let mut sources = Vec::new(alloc);
-    for text in ROBOT {
+    for (name, text) in ROBOT {
         sources.push(Source {
-            name: "robot.idl",
+            name,
             text: text.as_bytes(),
         })?;
     }
@@ -103,7 +103,22 @@ fn constants_are_computed(rt: HostRuntime) -> Result<(), Fail> {
 }
 
 /// Texts that are refused, and what is printed of them.
-const REFUSED: [(&str, &str); 38] = [
+const REFUSED: [(&str, &str); 44] = [
+    (
+        "#include \"robot.idl\"",
+        "1:10: the text \"robot.idl\" has to be given before this one",
+    ),
+    (
+        "#include \"pose.idl\"",
+        "1:10: the text \"pose.idl\" isn't given",
+    ),
+    ("#include <msg/robot.idl", "1:24: 'the end' isn't expected"),
+    (
+        "#pragma keylist A a",
+        "1:9: 'keylist' isn't supported: mark the members of a key by @key",
+    ),
+    ("#pragma once", "1:9: 'once' isn't supported"),
+    ("#ifndef A", "1:2: 'ifndef' isn't supported"),
     (
         "const long A = 1 / 0;",
         "1:18: '/' gives no number of 64 bits",

@@ -50,8 +50,10 @@ pub const VALUES: [(&str, &str); 12] = [
 ];
 
 /// Types in the style of ROS 2, in an order in which each is declared before it is used.
-pub const ROBOT: [&str; 3] = [
-    "// generated
+pub const ROBOT: [(&str, &str); 3] = [
+    (
+        "share/std_msgs/msg/Header.idl",
+        "// generated
 module builtin_interfaces { module msg { module dds_ {
   @verbatim (language=\"comment\", text=\"seconds (\" \"and more\")
   struct Time_ { int32 sec; @unit(value=\"ns\") uint32 nanosec; };
@@ -61,7 +63,11 @@ module std_msgs { module msg { module dds_ {
   struct Header_ { builtin_interfaces::msg::dds_::Time_ stamp; string frame_id; };
 }; }; };
 ",
-    "module geometry_msgs { module msg { module dds_ {
+    ),
+    (
+        "geometry.idl",
+        "#include <std_msgs/msg/Header.idl>
+module geometry_msgs { module msg { module dds_ {
   struct Vector3_ { double x; double y; double z; };
   struct Point_ { double x, y, z; };
   struct Quaternion_ { double x; double y; double z; double w; };
@@ -73,7 +79,11 @@ module std_msgs { module msg { module dds_ {
     Transform_ transform; };
 }; }; };
 ",
-    "module sensor_msgs { module msg { module dds_ {
+    ),
+    (
+        "sensor.idl",
+        "#include \"geometry.idl\"
+module sensor_msgs { module msg { module dds_ {
   module Image_Constants { const uint32 ROWS = 0x10; };
   struct Image_ { std_msgs::msg::dds_::Header_ header; uint32 height; uint32 width;
     string<Image_Constants::ROWS> encoding; octet is_bigendian; uint32 step;
@@ -85,4 +95,5 @@ module tf2_msgs { module msg { module dds_ {
   struct TFMessage_ { sequence<geometry_msgs::msg::dds_::TransformStamped_> transforms; };
 }; }; };
 ",
+    ),
 ];
