@@ -1,16 +1,15 @@
 -- The next word of a text.
-use Rattle.std.proofs.Common.{◌≡◌, ◌+◌, ◌<◌, ◌≤◌, ℕ, suc, List, [], ◌∷◌, ◌++◌, append_assoc, subst, length, take, drop, Option, Some, None, arith, ap, sym, ◌∙◌, refl}
+use Rattle.std.proofs.Common.{◌≡◌, ◌+◌, ◌<◌, ℕ, suc, List, [], ◌∷◌, ◌++◌, append_assoc, subst, length, take, drop, Option, Some, arith, ap, sym, ◌∙◌, refl}
 use Rattle.std.specs.Prelude.{◌≢◌, Bool, true, false, ◌==◌, if◌then◌else◌}
 use Rattle.std.specs.Char.{is_ascii_digit}
 use Rattle.std.specs.List.{take_while}
 use Rattle.std.proofs.lemmas.List.Sums.{take_while-cons}
 use Rattle.dds_idl.specs.Gap.{gap}
 use Rattle.dds_idl.specs.declared.gap.Within.TheVariants.{Code}
-use Rattle.dds_idl.specs.declared.word.Kind.{Kind}
 use Rattle.dds_idl.specs.declared.word.Kind.TheVariants.{End}
 use Rattle.dds_idl.specs.declared.word.Word.{Word}
 use Rattle.dds_idl.specs.declared.words.Front.{Front}
-use Rattle.dds_idl.specs.Words.{AreWords, Found, IsNext, last, next, begins_name, behind_word, front, front_of, is_numeric, is_wordy, literal_end, run}
+use Rattle.dds_idl.specs.Words.{AreWords, Found, last, next, begins_name, front, front_of, is_numeric, is_wordy, literal_end, run}
 
 -- a literal ends behind where it is looked for
 pub literal_moves : (quote : ℕ) (is_escaped : Bool) (at : ℕ) (text : List ℕ) (end : ℕ)

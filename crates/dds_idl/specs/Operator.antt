@@ -1,6 +1,6 @@
 -- What operators in constant expressions give, in 64 bits (IDL 4.2, 7.4.1.4.3).
-use Rattle.std.specs.Prelude.{◌≡◌, ◌<◌, ℤ, ◌+ℤ◌, ◌-ℤ◌, ◌*ℤ◌, neg_ℤ, FitsSigned, Option, Some, None, int_div, int_rem}
-use Rattle.std.specs.Int.{w64, CanDivide, int_bit_and, int_bit_or, int_bit_xor, int_bit_not, int_shl, int_shr}
+use Rattle.std.specs.Prelude.{◌≡◌, ℤ, ◌+ℤ◌, ◌-ℤ◌, ◌*ℤ◌, neg_ℤ, FitsSigned, Option, Some, int_div, int_rem}
+use Rattle.std.specs.Int.{w64, CanDivide, int_bit_and, int_bit_or, int_bit_xor, int_bit_not}
 use Rattle.std.specs.Option.{SomeIff}
 use Rattle.dds_idl.specs.declared.operator.Infix.{Infix}
 use Rattle.dds_idl.specs.declared.operator.Infix.TheVariants.{Or, Xor, And, Left, Right, Add, Subtract, Multiply, Divide, Remainder}

@@ -16,6 +16,8 @@ pub(crate) struct Marks {
 #[derive(Clone, Copy, Debug, PartialEq, Eq)]
 pub(crate) enum Place {
     Member,
+    /// A value of an enumeration.
+    Value,
     Definition,
 }
 

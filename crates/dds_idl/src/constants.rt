@@ -1,5 +1,9 @@
 //! Numbers and constant expressions.
 
+ghost use Rattle.std.specs.Prelude.{◌≡◌};
+ghost use Rattle.std.specs.Str.Parse.{ParsesUnsigned};
+ghost use Rattle.dds_idl.specs.Number.{base_of, digits_of};
+
 use crate::IdlFault;
 use crate::cursor::Cursor;
 use crate::declarations::Meaning;
@@ -8,21 +12,32 @@ use crate::operator::{Infix, Prefix};
 use crate::word::Kind;
 use crate::words::Fault;
 use std::alloc::{AllocError, Global};
+use std::num::ParseIntError;
+
+/// Returns the base of a number, and its digits.
+fn spelled(word: &str) -> (u32, &str)
+    ensures base { result.0 ≡ base_of word.now }
+    ensures digits { result.1.now ≡ digits_of word.now }
+{
+    let octets = word.as_bytes();
+    if octets.len() < 2 || octets[0] != b'0' {
+        return (10, word);
+    }
+    if octets[1] == b'x' || octets[1] == b'X' {
+        let (_, digits) = word.split_at(2);
+        return (16, digits);
+    }
+    let (_, digits) = word.split_at(1);
+    (8, digits)
+}
 
 /// Returns the number that a word spells: in base 16 behind `0x`, in base 8 behind `0`, else in
 /// base 10 (IDL 4.2, 7.2.6.1).
-fn number_of(word: &str) -> Option<u64> {
-    let hex = match word.strip_prefix("0x") {
-        Some(digits) => Some(digits),
-        None => word.strip_prefix("0X"),
-    };
-    if let Some(digits) = hex {
-        return u64::from_str_radix(digits, 16).ok();
-    }
-    match word.strip_prefix('0') {
-        Some("") | None => u64::from_str_radix(word, 10).ok(),
-        Some(digits) => u64::from_str_radix(digits, 8).ok(),
-    }
+fn number_of(word: &str) -> Result<u64, ParseIntError>
+    ensures { ParsesUnsigned 64 (base_of word.now) (digits_of word.now) result }
+{
+    let (base, digits) = spelled(word);
+    u64::from_str_radix(digits, base)
 }
 
 /// What waits for a number behind it.
@@ -187,8 +202,8 @@ impl Draft {
         let number = if word.kind == Kind::Number {
             cursor.advance();
             match number_of(word.text) {
-                Some(number) => i64::try_from(number).ok(),
-                None => None,
+                Ok(number) => i64::try_from(number).ok(),
+                Err(_) => None,
             }
         } else {
             match self.resolve(cursor)? {

@@ -1,7 +1,5 @@
 //! What some texts declare.
 
-ghost use Rattle.std.specs.Prelude.{◌<◌, IfSome, length};
-
 use dds_xcdr::{TypeId, Types};
 use std::alloc::{AllocError, Global};
 use std::collections::{BTreeMap, BTreeSet};
@@ -12,7 +10,7 @@ pub(crate) enum Meaning {
     Module,
     /// A struct whose body hasn't ended.
     Unfinished,
-    Type(TypeId),
+    Described(TypeId),
     /// A constant that is a whole number.
     Number(i64),
     /// A constant of another type, or a value of an enumeration.
@@ -39,6 +37,11 @@ pub struct Declarations {
 }
 
 impl Declarations {
+    ghost use Rattle.std.specs.Prelude.{◌≡◌, ◌≢◌, ◌<◌, IfNone, IfSome, Some, length};
+    ghost use Rattle.std.specs.BTreeMap.{get_by_text};
+    ghost use Rattle.dds_xcdr.specs.declared.member.TypeId.{TypeId};
+    ghost use Rattle.dds_idl.specs.declared.declarations.Meaning.TheVariants as meaning;
+
     pub(crate) fn new(alloc: Global) -> Declarations {
         Declarations {
             types: Types::new(alloc),
@@ -51,10 +54,14 @@ impl Declarations {
     /// Returns the type of a full name, as `nav_msgs::msg::dds_::Odometry_`: of a struct, an
     /// enumeration or a typedef. `None` if no type has the name, in this case of its letters.
     pub fn find(&self, name: &str) -> Option<TypeId>
-        ensures { IfSome result (λ id. id.0 < length self.now.types) }
+        ensures named { IfSome result
+            (λ id. get_by_text self.now.names name.now ≡ Some (meaning.Described id)) }
+        ensures there { IfSome result (λ id. id.0 < length self.now.types) }
+        ensures other { IfNone result ((id : TypeId) → id.0 < length self.now.types
+            → get_by_text self.now.names name.now ≢ Some (meaning.Described id)) }
     {
         match self.names.get(name) {
-            Some(Meaning::Type(id)) if self.types.contains(*id) => Some(*id),
+            Some(Meaning::Described(id)) if self.types.contains(*id) => Some(*id),
             _ => None,
         }
     }

@@ -106,7 +106,7 @@ impl Draft {
         cursor.want("{")?;
         let mut cases = Vec::new(self.alloc);
         for value in 0..i32::MAX {
-            annotations(cursor, Place::Member)?;
+            annotations(cursor, Place::Value)?;
             let case = cursor.word();
             let case_name = cursor.name()?;
             self.declare(case, case_name, Meaning::Value)?;
@@ -118,7 +118,7 @@ impl Draft {
         }
         cursor.want("}")?;
         let of = placed(word.at, self.made.types.enumeration(cases))?;
-        self.declare(word, name, Meaning::Type(of))
+        self.declare(word, name, Meaning::Described(of))
     }
 
     /// Takes typedefs, behind that word.
@@ -128,7 +128,7 @@ impl Draft {
             let word = cursor.word();
             let name = cursor.name()?;
             let of = self.sized(cursor, of)?;
-            self.declare(word, name, Meaning::Type(of))?;
+            self.declare(word, name, Meaning::Described(of))?;
             if !cursor.take(",") {
                 break;
             }
@@ -170,7 +170,7 @@ impl Draft {
             }
             _ => match self.resolve(cursor)? {
                 Meaning::Number(_) | Meaning::Value => Ok(()),
-                Meaning::Module | Meaning::Unfinished | Meaning::Type(_) => Err(Fault {
+                Meaning::Module | Meaning::Unfinished | Meaning::Described(_) => Err(Fault {
                     at: word.at,
                     what: IdlFault::Unexpected,
                 }),
@@ -243,15 +243,15 @@ impl Draft {
                 directive(self.alloc, cursor, given)?;
                 continue;
             }
-            let marks = annotations(cursor, Place::Definition)?;
             if cursor.take("module") {
                 let word = cursor.word();
                 let name = cursor.name()?;
                 self.open(word, name)?;
                 cursor.want("{")?;
-            } else {
-                self.definition(cursor, marks)?;
+                continue;
             }
+            let marks = annotations(cursor, Place::Definition)?;
+            self.definition(cursor, marks)?;
         }
         if self.is_closed() {
             Ok(())

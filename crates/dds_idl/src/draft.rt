@@ -47,6 +47,9 @@ pub(crate) fn placed(at: usize, described: Result<TypeId, TypeFault>) -> Result<
 }
 
 impl Draft {
+    ghost use Rattle.std.specs.Prelude.{◌≡◌, IfOk, string_bytes};
+    ghost use Rattle.dds_idl.specs.Names.{innermost};
+
     pub(crate) fn new(alloc: Global) -> Draft {
         Draft {
             alloc,
@@ -112,7 +115,7 @@ impl Draft {
     /// Puts a type where its name was declared as one that isn't finished.
     pub(crate) fn finish(&mut self, word: Word<'_>, name: &str, of: TypeId) -> Result<(), Fault> {
         let full = self.full_name(word, name)?;
-        self.made.names.insert(full, Meaning::Type(of))?;
+        self.made.names.insert(full, Meaning::Described(of))?;
         Ok(())
     }
 
@@ -133,17 +136,21 @@ impl Draft {
         self.prefixes.pop().is_some()
     }
 
-    /// Returns the full name of what a name is in the innermost scope that declares it (IDL 4.2,
+    /// Returns the full name of what a name is in the innermost module that declares it (IDL 4.2,
     /// 7.5.2), and the name alone if none does.
-    fn innermost(&self, name: &str) -> Result<String, AllocError> {
-        for prefix in self.prefixes.iter().rev() {
-            let prefix = prefix.as_str();
-            let full = format!(in self.alloc; "{prefix}{name}")?;
+    fn innermost(&self, name: &str) -> Result<String, AllocError>
+        ensures { IfOk result (λ full. string_bytes full
+            ≡ innermost self.now.made.names self.now.prefixes.items name.now) }
+    {
+        let mut found = String::from_str(self.alloc, name)?;
+        for prefix in &self.prefixes {
+            let mut full = String::from_str(self.alloc, prefix.as_str())?;
+            full.push_str(name)?;
             if self.made.names.contains_key(full.as_str()) {
-                return Ok(full);
+                found = full;
             }
         }
-        String::from_str(self.alloc, name)
+        Ok(found)
     }
 
     /// Takes a name, which may be scoped, and returns what it stands for. `NotDeclared` if that is

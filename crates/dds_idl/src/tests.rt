@@ -102,8 +102,57 @@ fn constants_are_computed(rt: HostRuntime) -> Result<(), Fail> {
     Ok(())
 }
 
+/// Adds a text several times.
+fn repeat(text: &mut String, part: &str, times: usize) -> Result<(), AllocError> {
+    for _ in 0..times {
+        text.push_str(part)?;
+    }
+    Ok(())
+}
+
+#[test]
+fn hostile_texts_are_refused(rt: HostRuntime) -> Result<(), Fail> {
+    let alloc = rt.alloc();
+    let mut sequences = String::from_str(alloc, "struct A { ")?;
+    repeat(&mut sequences, "sequence<", 10_000)?;
+    sequences.push_str("long")?;
+    repeat(&mut sequences, ">", 10_000)?;
+    sequences.push_str(" a; };")?;
+    let mut parentheses = String::from_str(alloc, "const long A = ")?;
+    repeat(&mut parentheses, "-(", 10_000)?;
+    parentheses.push_str("1")?;
+    repeat(&mut parentheses, ")", 10_000)?;
+    parentheses.push_str(" / 0;")?;
+    let mut name = String::from_str(alloc, "struct ")?;
+    repeat(&mut name, "abcdefgh", 8_192)?;
+    name.push_str(" { long a; };")?;
+    let mut modules = String::new(alloc);
+    repeat(&mut modules, "module m { ", 10_000)?;
+    let mut doubled = String::from_str(alloc, "typedef octet T[2]; ")?;
+    repeat(&mut doubled, "module m { typedef T T[2]; ", 40)?;
+    for (text, wanted) in [
+        (&sequences, "' isn't described: a type is nested too deeply"),
+        (
+            &parentheses,
+            "robot.idl:1:30018: '/' gives no number of 64 bits",
+        ),
+        (&name, "' is too long"),
+        (&modules, "robot.idl:1:943: the name 'm' is too long"),
+        (&doubled, "' isn't described: a type is nested too deeply"),
+    ] {
+        let printed = refusal(alloc, text.as_bytes())?;
+        assert!(rt; printed.as_str().ends_with(wanted), "{printed}");
+    }
+    Ok(())
+}
+
 /// Texts that are refused, and what is printed of them.
-const REFUSED: [(&str, &str); 44] = [
+const REFUSED: [(&str, &str); 46] = [
+    (
+        "enum A { @value(5) B };",
+        "1:11: the annotation 'value' isn't supported",
+    ),
+    ("@nested module m { };", "1:9: 'module' isn't supported"),
     (
         "#include \"robot.idl\"",
         "1:10: the text \"robot.idl\" has to be given before this one",

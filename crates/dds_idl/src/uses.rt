@@ -111,7 +111,7 @@ impl Draft {
             return Err(cursor.fault(what));
         }
         let what = match self.resolve(cursor)? {
-            Meaning::Type(of) => return Ok(of),
+            Meaning::Described(of) => return Ok(of),
             Meaning::Unfinished => IdlFault::ContainsItself,
             Meaning::Module | Meaning::Number(_) | Meaning::Value => IdlFault::NotAType,
         };

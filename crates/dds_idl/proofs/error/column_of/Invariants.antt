@@ -1,5 +1,4 @@
 use Rattle.std.proofs.Common.{◌≡◌, ◌≤◌, ◌+◌, drop}
-use Rattle.std.specs.Prelude.{suc}
 use Rattle.dds_idl.specs.Place.{column_from}
 use Rattle.dds_idl.proofs.error.column_of.Given as goal
 

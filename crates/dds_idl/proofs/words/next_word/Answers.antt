@@ -1,4 +1,4 @@
-use Rattle.std.proofs.Common.{◌≡◌, ◌+◌, ◌∙◌, ap, sym, refl, List, ℕ, drop, take, Some}
+use Rattle.std.proofs.Common.{◌+◌, ◌∙◌, ap, sym, refl, List, ℕ}
 use Rattle.dds_idl.specs.Words.{front}
 use Rattle.dds_idl.specs.declared.word.Word.{Word}
 use Rattle.dds_idl.specs.Gap.{gap}
