@@ -29,8 +29,7 @@ abbrev pub column_of : List ℕ → ℕ
 column_of before = column_from 1 before
 
 -- an error says where in a text an offset is
-pub record IsBlamed (index : ℕ) (source : Source) (e : IdlError) : Type 0 where
-  pub offset : ℕ
+pub record IsBlamed (index : ℕ) (source : Source) (offset : ℕ) (e : IdlError) : Type 0 where
   pub within : offset ≤ length source.text.now
   pub source_is : e.source ≡ index
   pub name : string_bytes e.name ≡ source.name.now
@@ -41,5 +40,6 @@ pub record IsBlamed (index : ℕ) (source : Source) (e : IdlError) : Type 0 wher
 pub record IsAPlace (sources : List Source) (e : IdlError) : Type 0 where
   pub index : ℕ
   pub source : Source
+  pub offset : ℕ
   pub there : slice_get sources index ≡ Some source
-  pub blamed : IsBlamed index source e
+  pub blamed : IsBlamed index source offset e

@@ -1,6 +1,6 @@
 //! A fault and its place.
 
-ghost use Rattle.std.specs.Prelude.{◌≡◌, ◌≢◌, IfOk};
+ghost use Rattle.std.specs.Prelude.{◌≡◌, ◌≢◌, IfOk, length, min};
 ghost use Rattle.dds_idl.specs.Place.{IsBlamed, column_of, line_of, begins_character, is_line_feed};
 ghost use Rattle.dds_idl.specs.declared.fault.IdlFault.TheVariants.{NoMemory};
 
@@ -111,7 +111,9 @@ fn blame(
     source: &Source<'_>,
     fault: Fault,
 ) -> Result<IdlError, AllocError>
-    ensures { IfOk result (λ e. IsBlamed index source.now e) }
+    ensures place { IfOk result (λ e.
+        IsBlamed index source.now (min fault.at (length source.now.text.now)) e) }
+    ensures what { IfOk result (λ e. e.what ≡ fault.what) }
 {
     let at = fault.at.min(source.text.len());
     let before = &source.text[..at];
@@ -127,7 +129,9 @@ fn blame(
 
 /// Returns the error of a fault in a text.
 pub(crate) fn error_of(alloc: Global, index: usize, source: &Source<'_>, fault: Fault) -> IdlError
-    ensures { result.what ≢ NoMemory → IsBlamed index source.now result }
+    ensures place { result.what ≢ NoMemory
+        → IsBlamed index source.now (min fault.at (length source.now.text.now)) result }
+    ensures what { result.what ≢ NoMemory → result.what ≡ fault.what }
 {
     match blame(alloc, index, source, fault) {
         Ok(error) => error,

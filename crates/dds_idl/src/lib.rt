@@ -1,4 +1,9 @@
 //! Data types from texts in the interface definition language (OMG IDL 4.2).
+//!
+//! [`parse`] cuts texts into words, and takes their definitions in order: modules, structs,
+//! enumerations, typedefs and constants. Each type is described by those before it, in the `Types`
+//! of `dds_xcdr`, and is found by its full name. What isn't read is refused with its place. That a
+//! text which is taken is one of IDL's is shown by tests alone.
 #![tactic(auto)]
 
 mod annotations;
