@@ -1,6 +1,6 @@
 -- What operators in constant expressions give, in 64 bits (IDL 4.2, 7.4.1.4.3).
-use Rattle.std.specs.Prelude.{◌≡◌, ℤ, ◌+ℤ◌, ◌-ℤ◌, ◌*ℤ◌, neg_ℤ, FitsSigned, Option, Some, int_div, int_rem}
-use Rattle.std.specs.Int.{w64, CanDivide, int_bit_and, int_bit_or, int_bit_xor, int_bit_not}
+use Rattle.std.specs.Prelude.{◌≡◌, ◌<◌, ℕ, ℤ, pos, ◌+ℤ◌, ◌-ℤ◌, ◌*ℤ◌, neg_ℤ, FitsSigned, Option, Some, int_div, int_rem}
+use Rattle.std.specs.Int.{w64, CanDivide, int_bit_and, int_bit_or, int_bit_xor, int_bit_not, int_shl, int_shr}
 use Rattle.std.specs.Option.{SomeIff}
 use Rattle.dds_idl.specs.declared.operator.Infix.{Infix}
 use Rattle.dds_idl.specs.declared.operator.Infix.TheVariants.{Or, Xor, And, Left, Right, Add, Subtract, Multiply, Divide, Remainder}
@@ -12,8 +12,8 @@ abbrev pub Combines : Infix → ℤ → ℤ → Option ℤ → Type 0
 Combines Or x y r = r ≡ Some (int_bit_or w64 x y)
 Combines Xor x y r = r ≡ Some (int_bit_xor w64 x y)
 Combines And x y r = r ≡ Some (int_bit_and w64 x y)
-Combines Left x y r = Unit {0}
-Combines Right x y r = Unit {0}
+Combines Left x y r = (n : ℕ) → n < 64 → y ≡ pos n → r ≡ Some (int_shl w64 x n)
+Combines Right x y r = (n : ℕ) → n < 64 → y ≡ pos n → r ≡ Some (int_shr x n)
 Combines Add x y r = SomeIff r (FitsSigned w64 (x +ℤ y)) (x +ℤ y)
 Combines Subtract x y r = SomeIff r (FitsSigned w64 (x -ℤ y)) (x -ℤ y)
 Combines Multiply x y r = SomeIff r (FitsSigned w64 (x *ℤ y)) (x *ℤ y)

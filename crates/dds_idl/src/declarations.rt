@@ -67,17 +67,23 @@ impl Declarations {
     }
 
     /// Returns the structs that aren't `@nested`, in order of declaration.
-    pub fn topics(&self) -> &[Topic] {
+    pub fn topics(&self) -> &[Topic]
+        ensures { result.now ≡ self.now.topics.items }
+    {
         self.topics.as_slice()
     }
 
     /// Returns the types, among which are those that are found by name.
-    pub fn types(&self) -> &Types {
+    pub fn types(&self) -> &Types
+        ensures { result.now ≡ self.now.types }
+    {
         &self.types
     }
 
     /// Gives the types away.
-    pub fn into_types(self) -> Types {
+    pub fn into_types(self) -> Types
+        ensures { result ≡ self.types }
+    {
         self.types
     }
 }

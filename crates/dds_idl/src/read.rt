@@ -41,9 +41,8 @@ fn read_text(draft: &mut Draft, given: Given<'_>, source: &Source<'_>) -> Result
 /// name of a declaration that is refused; the operator that gives no number; `NoMemory` if memory is
 /// refused. [`IdlFault`] has them all. Nothing of the texts is kept then.
 ///
-/// A text of n octets takes memory for its words, at most 56 octets for each octet of it, and for
-/// what it declares. Each word is looked at a few times, and each name in as many modules as are
-/// open.
+/// For its words and for what it declares, a text takes a constant number of octets for each of its
+/// own. Each word is looked at a few times, and each name in as many modules as are open.
 ///
 /// # Example
 ///
