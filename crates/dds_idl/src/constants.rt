@@ -206,9 +206,21 @@ impl Draft {
                 Err(_) => None,
             }
         } else {
-            match self.resolve(cursor)? {
-                Meaning::Number(number) => Some(number),
-                _ => None,
+            match self.resolve(cursor) {
+                Ok(Meaning::Number(number)) => Some(number),
+                Ok(_) => None,
+                Err(
+                    Fault {
+                        at,
+                        what: IdlFault::NotDeclared,
+                    },
+                ) => {
+                    return Err(Fault {
+                        at,
+                        what: IdlFault::NoConstant,
+                    });
+                }
+                Err(fault) => return Err(fault),
             }
         };
         match number {

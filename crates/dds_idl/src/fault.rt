@@ -27,8 +27,10 @@ pub enum IdlFault {
     OpenModule,
     /// A name is declared already, in this case or in another.
     Twice,
-    /// A name isn't declared, or only in another case.
+    /// A type isn't declared, or only in another case.
     NotDeclared,
+    /// A constant isn't declared, or only in another case.
+    NoConstant,
     /// A name is declared, and isn't that of a type.
     NotAType,
     /// A type is used before its body ends, so it would contain itself.
@@ -69,6 +71,7 @@ impl IdlFault {
             IdlFault::OpenModule => ("a module doesn't end", ""),
             IdlFault::Twice => ("the name '", "' is declared already"),
             IdlFault::NotDeclared => ("the type '", "' isn't declared"),
+            IdlFault::NoConstant => ("the constant '", "' isn't declared"),
             IdlFault::NotAType => ("'", "' isn't a type"),
             IdlFault::ContainsItself => ("the type '", "' contains itself"),
             IdlFault::Unsupported => ("'", "' isn't supported"),

@@ -52,6 +52,23 @@ fn values_of_a_peer_are_of_the_types(rt: HostRuntime) -> Result<(), Fail> {
 }
 
 #[test]
+fn the_example_is_run(rt: HostRuntime) -> Result<(), Fail> {
+    let alloc = rt.alloc();
+    let text = "module shapes { struct Shape { @key string<32> color; long x, y; }; };";
+    let source = Source {
+        name: "shapes.idl",
+        text: text.as_bytes(),
+    };
+    let declared = parse(alloc, &[source])?;
+    let shape = declared.find("shapes::Shape").ok_or("no such type")?;
+    assert!(rt; declared.types().contains(shape));
+    let topic = TopicType::new(declared.into_types(), shape)?;
+    let body = b"\x04\0\0\0RED\0\x01\0\0\0\x02\0\0\0";
+    assert_eq!(rt; topic.look_through(1, body), Ok(16));
+    Ok(())
+}
+
+#[test]
 fn types_of_several_texts_are_found(rt: HostRuntime) -> Result<(), Fail> {
     let alloc = rt.alloc();
     let mut sources = Vec::new(alloc);
@@ -147,7 +164,11 @@ fn hostile_texts_are_refused(rt: HostRuntime) -> Result<(), Fail> {
 }
 
 /// Texts that are refused, and what is printed of them.
-const REFUSED: [(&str, &str); 46] = [
+const REFUSED: [(&str, &str); 47] = [
+    (
+        "struct A { long a[N]; };",
+        "1:19: the constant 'N' isn't declared",
+    ),
     (
         "enum A { @value(5) B };",
         "1:11: the annotation 'value' isn't supported",
