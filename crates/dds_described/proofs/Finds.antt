@@ -120,7 +120,7 @@ tested_finds A is c p (Some (x, end)) law = by_test (p x end) refl where
 
 -- ---- one after another
 
--- a first value, and behind it another
+-- a first value, and after it another
 abbrev pub Then : (A B : Type 0) → (ℕ → List ℕ → A → Type 0) → (A → ℕ → List ℕ → B → Type 0) → ℕ
     → List ℕ → B → Type 0
 Then A B is js at octets y =
@@ -240,7 +240,7 @@ nothing_found A is c =
           ap (λ (n : ℕ). Some ([], n)) (omega (arith, ends, ap length is.1))
       none (x ∷ xs) end front is ends = absurd (cc (is.0))
 
--- what comes behind the first of them
+-- what comes after the first of them
 abbrev More : (A : Type 0) → (ℕ → List ℕ → A → Type 0) → ℕ → A → ℕ → List ℕ → List A → Type 0
 More A is n x at octets ys = (xs : List A) × ((x ∷ xs) ≡ ys) × Items A is n at octets xs
 

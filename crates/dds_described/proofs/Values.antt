@@ -214,7 +214,7 @@ bounded_finds A is bound c r law =
     (λ os xs t. (t.1, within_true bound (length xs) t.0))
     (tested_finds (List A) is c (λ xs end. is_within bound (length xs)) r law)
 
--- the members behind the first
+-- the members after the first
 abbrev Rest : Version → (t : Xtype) → (fields : Fields) → Endian → ValueOf t → ℕ → List ℕ
     → ValueOf t × ValuesOf fields → Type 0
 Rest v t fields e x at octets xs = (xs.0 ≡ x) × AreFields v fields at e octets xs.1

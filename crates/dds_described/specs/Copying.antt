@@ -21,7 +21,7 @@ abbrev pub value_in : {A : Type 0} → Found A → Result A UnreadCode
 value_in (Some x) = Ok x.0
 value_in None = Err unread.Malformed
 
--- the reader behind it
+-- the reader after it
 abbrev pub behind : {A : Type 0} → Cursor → Found A → Cursor
 behind c (Some x) = placed c x.1
 behind c None = c

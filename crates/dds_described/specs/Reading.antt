@@ -14,7 +14,7 @@ pub record IsWithin (e : Endian) (c : Cursor) : Type 0 where
   pub order : e ≡ c.endian
   pub within : c.position ≤ length c.octets
 
--- a value and the position behind it, if it is there
+-- a value and the position after it, if it is there
 abbrev pub Found : Type 0 → Type 0
 Found A = Option (A × ℕ)
 
@@ -28,7 +28,7 @@ abbrev pub mapped : {A B : Type 0} → (A → B) → Found A → Found B
 mapped f (Some x) = Some (f x.0, x.1)
 mapped f None = None
 
--- what comes behind a value
+-- what comes after a value
 abbrev pub followed : {A B : Type 0} → Found A → (A → ℕ → Found B) → Found B
 followed (Some x) f = f x.0 x.1
 followed None f = None
@@ -38,7 +38,7 @@ abbrev pub tested : {A : Type 0} → (A → ℕ → Bool) → Found A → Found 
 tested p (Some x) = if p x.0 x.1 then Some x else None
 tested p None = None
 
--- a number of so many octets, with its alignment
+-- a number of this size, with its alignment
 abbrev pub number_found : (alignment size : ℕ) → Cursor → Found ℕ
 number_found alignment size c =
     if nat_le (aligned alignment c.position + size) (length c.octets)

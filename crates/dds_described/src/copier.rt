@@ -59,7 +59,7 @@ pub(crate) fn is_within(bound: u32, count: usize) -> bool
     bound == 0 || count <= bound as usize
 }
 
-/// Whether a position is `count` octets behind a start.
+/// Whether a position is `count` octets after a start.
 pub(crate) fn is_behind(start: usize, count: u32, end: usize) -> bool
     ensures { IsTrue result ↔ (end ≡ start + count) }
 {

@@ -11,7 +11,7 @@ use Rattle.dds_idl.specs.declared.word.Word.{Word}
 use Rattle.dds_idl.specs.declared.words.Front.{Front}
 use Rattle.dds_idl.specs.Words.{AreWords, Found, last, next, begins_name, front, front_of, is_numeric, is_wordy, literal_end, run}
 
--- a literal ends behind where it is looked for
+-- a literal ends after where it is looked for
 pub literal_moves : (quote : ℕ) (is_escaped : Bool) (at : ℕ) (text : List ℕ) (end : ℕ)
     → literal_end quote is_escaped at text ≡ Some end → at < end
 literal_moves quote is_escaped at [] end found = grind arith
@@ -77,7 +77,7 @@ found at rest w behind left len flen is_gap gap_is behind_is at_is front_is text
       moves = λ some. let some_len : 0 < flen = front_moves behind (front_of w.kind flen) front_is some in omega arith;
     }
 
--- the words before an offset of a text, and what is left behind it
+-- the words before an offset of a text, and what is left after it
 unfoldable pub WordsBefore : List ℕ → List Word → ℕ → List ℕ → Type 0
 WordsBefore text words at rest =
     (more : List Word) → AreWords at rest more → AreWords 0 text (words ++ more)
@@ -89,7 +89,7 @@ pub last_word : (text : List ℕ) (words : List Word) (at : ℕ) (rest left : Li
 unfolding WordsBefore
 last_word text words at rest left w before found ends = before (w ∷ []) (last found.is ends)
 
--- another is behind them
+-- another is after them
 pub next_word : (text : List ℕ) (words : List Word) (at : ℕ) (rest left : List ℕ) (w : Word)
     → WordsBefore text words at rest → Found at rest w left
     → WordsBefore text (words ++ w ∷ []) (w.at + length w.text.now) left

@@ -10,7 +10,7 @@ is_gap Code octet next =
     if octet == 47 then (if next == 47 then true else next == 42) else is_ascii_whitespace octet
 is_gap other octet next = true
 
--- what stands behind such an octet; 10 is a line feed
+-- what comes after such an octet; 10 is a line feed
 abbrev pub behind : Within → ℕ → ℕ → Within
 behind Code octet next =
     if octet == 47 then (if next == 47 then Line else Opening) else Code

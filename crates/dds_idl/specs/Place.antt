@@ -15,7 +15,7 @@ begins_character octet = if nat_lt octet 128 then true else nat_le 192 octet
 abbrev pub line_of : List ℕ → ℕ
 line_of before = suc (count_by is_line_feed before)
 
--- the column behind an octet, where that of the octet is known
+-- the column after an octet, where that of the octet is known
 abbrev pub column_behind : ℕ → ℕ → ℕ
 column_behind column octet =
     if is_line_feed octet then 1 else if begins_character octet then suc column else column

@@ -26,7 +26,7 @@ is_numeric octet = if is_wordy octet then true else octet == 46
 abbrev pub run : (ℕ → Bool) → List ℕ → ℕ
 run test text = length (take_while test text)
 
--- where a literal ends whose octets from `at` on are these, if it does so on its line: behind a
+-- where a literal ends whose octets from `at` on are these, if it does so on its line: after a
 -- quote that no backslash, 92, is before
 abbrev pub literal_end : (quote : ℕ) → (is_escaped : Bool) → (at : ℕ) → List ℕ → Option ℕ
 literal_end quote is_escaped at [] = None
@@ -53,18 +53,18 @@ front (octet ∷ rest) =
     else if nat_le 33 octet then (if nat_le octet 126 then Some (front_of Mark 1) else None)
     else None
 
--- a word is the next one of a text: it stands behind the gap
+-- a word is the next one of a text: it comes after the gap
 pub record IsNext (at : ℕ) (rest : List ℕ) (w : Word) : Type 0 where
   pub behind_gap : w.gap.now ≡ take (gap Code rest) rest
   pub place : w.at ≡ at + gap Code rest
   pub whole : front (drop (gap Code rest) rest) ≡ Some (front_of w.kind (length w.text.now))
   pub text : w.text.now ≡ take (length w.text.now) (drop (gap Code rest) rest)
 
--- what is left behind the next word
+-- what is left after the next word
 abbrev pub behind_word : Word → List ℕ → List ℕ
 behind_word w rest = drop (length w.text.now) (drop (gap Code rest) rest)
 
--- the next word of a text, and what is left behind it
+-- the next word of a text, and what is left after it
 pub record Found (at : ℕ) (rest : List ℕ) (w : Word) (left : List ℕ) : Type 0 where
   pub is : IsNext at rest w
   pub behind : left ≡ behind_word w rest

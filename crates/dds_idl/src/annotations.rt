@@ -12,7 +12,7 @@ pub(crate) struct Marks {
     pub(crate) is_nested: bool,
 }
 
-/// What stands behind an annotation.
+/// What comes after an annotation.
 #[derive(Clone, Copy, Debug, PartialEq, Eq)]
 pub(crate) enum Place {
     Member,

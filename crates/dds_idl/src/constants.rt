@@ -31,7 +31,7 @@ fn spelled(word: &str) -> (u32, &str)
     (8, digits)
 }
 
-/// Returns the number that a word spells: in base 16 behind `0x`, in base 8 behind `0`, else in
+/// Returns the number that a word writes: in base 16 after `0x`, in base 8 after `0`, else in
 /// base 10 (IDL 4.2, 7.2.6.1).
 fn number_of(word: &str) -> Result<u64, ParseIntError>
     ensures { ParsesUnsigned 64 (base_of word.now) (digits_of word.now) result }
@@ -40,7 +40,7 @@ fn number_of(word: &str) -> Result<u64, ParseIntError>
     u64::from_str_radix(digits, base)
 }
 
-/// What waits for a number behind it.
+/// What waits for a number after it.
 #[derive(Clone, Copy, Debug, PartialEq, Eq)]
 enum Waiting {
     Parenthesis,
@@ -151,7 +151,7 @@ impl Expression {
         Ok(())
     }
 
-    /// Takes the parentheses that end behind a number.
+    /// Takes the parentheses that end after a number.
     fn parentheses(&mut self, cursor: &mut Cursor<'_>) -> Result<(), Fault> {
         for _ in 0..cursor.len() {
             if !cursor.is(")") || self.open == 0 {
@@ -165,7 +165,7 @@ impl Expression {
         Ok(())
     }
 
-    /// Takes an operator behind a number, if one is next, and returns it.
+    /// Takes an operator after a number, if one is next, and returns it.
     fn infix(&self, cursor: &mut Cursor<'_>, ends: Ends) -> Option<Infix> {
         let infix = match cursor.word().text {
             "|" => Infix::Or,

@@ -47,7 +47,7 @@ impl<'w> Cursor<'w> {
         self.word().text == spelling
     }
 
-    /// Whether the next word and the one behind it have one spelling, with nothing between them.
+    /// Whether the next word and the one after it have one spelling, with nothing between them.
     pub(crate) fn is_doubled(&self) -> bool {
         match self.words.get(self.at..) {
             Some([first, second, ..]) => second.gap.is_empty() && second.text == first.text,

@@ -40,7 +40,7 @@ fn is_whole(word: &str) -> bool {
 }
 
 impl Draft {
-    /// Takes the members that one type has, behind their annotations.
+    /// Takes the members that one type has, after their annotations.
     fn members(&mut self, cursor: &mut Cursor<'_>, members: &mut Members) -> Result<(), Fault> {
         let marks = annotations(cursor, Place::Member)?;
         let of = self.used(cursor)?;
@@ -67,7 +67,7 @@ impl Draft {
         cursor.want(";")
     }
 
-    /// Takes a struct, behind that word.
+    /// Takes a struct, after that word.
     fn structure(&mut self, cursor: &mut Cursor<'_>, marks: Marks) -> Result<(), Fault> {
         let word = cursor.word();
         let name = cursor.name()?;
@@ -98,7 +98,7 @@ impl Draft {
         Ok(())
     }
 
-    /// Takes an enumeration, behind that word. The values of its names count from 0 (IDL 4.2,
+    /// Takes an enumeration, after that word. The values of its names count from 0 (IDL 4.2,
     /// 7.4.1.4.4.4.3), and they are declared beside it.
     fn enumeration(&mut self, cursor: &mut Cursor<'_>) -> Result<(), Fault> {
         let word = cursor.word();
@@ -121,7 +121,7 @@ impl Draft {
         self.declare(word, name, Meaning::Described(of))
     }
 
-    /// Takes typedefs, behind that word.
+    /// Takes typedefs, after that word.
     fn typedefs(&mut self, cursor: &mut Cursor<'_>) -> Result<(), Fault> {
         let of = self.used(cursor)?;
         for _ in 0..cursor.len() {
@@ -178,7 +178,7 @@ impl Draft {
         }
     }
 
-    /// Takes a constant, behind that word. Of those that are no whole numbers the value isn't
+    /// Takes a constant, after that word. Of those that are no whole numbers the value isn't
     /// kept.
     fn constant(&mut self, cursor: &mut Cursor<'_>) -> Result<(), Fault> {
         let is_whole = is_whole(cursor.word().text);

@@ -67,7 +67,7 @@ fn unexpected(word: Word<'_>) -> Fault {
     }
 }
 
-/// Takes a directive, behind its `#`. An `#include` says that its text has to be given before this
+/// Takes a directive, after its `#`. An `#include` says that its text has to be given before this
 /// one: `NotGiven` if it isn't given, `GivenLater` if it is, but later. `KeyList` for
 /// `#pragma keylist`, `Unsupported` for any other directive.
 pub(crate) fn directive(

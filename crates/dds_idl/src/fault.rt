@@ -58,7 +58,7 @@ pub enum IdlFault {
 }
 
 impl IdlFault {
-    /// Returns what is said of a word: what stands before it, and what behind it.
+    /// Returns what is said of a word: what stands before it, and what after it.
     pub(crate) fn parts(self) -> (&'static str, &'static str) {
         match self {
             IdlFault::NotUtf8 => ("the text isn't UTF-8", ""),

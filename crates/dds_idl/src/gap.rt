@@ -11,7 +11,7 @@ pub(crate) enum Within {
     Code,
     /// A comment that ends with the line.
     Line,
-    /// The start of a comment that `*/` ends, behind its first octet.
+    /// The start of a comment that `*/` ends, after its first octet.
     Opening,
     /// A comment that `*/` ends.
     Block,
@@ -44,7 +44,7 @@ fn is_gap(within: Within, octet: u8, next: u8) -> bool
     }
 }
 
-/// Returns what stands behind an octet that belongs to a gap.
+/// Returns what comes after an octet that belongs to a gap.
 fn behind(within: Within, octet: u8, next: u8) -> Within
     ensures { result ≡ behind within octet next }
 {

@@ -47,7 +47,7 @@ fn primitive(cursor: &mut Cursor<'_>) -> Option<Primitive> {
     Some(of)
 }
 
-/// Takes the name of a number that is unsigned, behind that word.
+/// Takes the name of a number that is unsigned, after that word.
 fn unsigned(cursor: &mut Cursor<'_>) -> Result<Primitive, Fault> {
     if cursor.take("short") {
         return Ok(Primitive::Uint16);
@@ -135,7 +135,7 @@ impl Draft {
         Ok(of)
     }
 
-    /// Takes the sizes of an array behind a name, if there are any, and returns the type of what
+    /// Takes the sizes of an array after a name, if there are any, and returns the type of what
     /// is declared.
     pub(crate) fn sized(&mut self, cursor: &mut Cursor<'_>, of: TypeId) -> Result<TypeId, Fault> {
         let at = cursor.word().at;

@@ -156,7 +156,7 @@ fn fault_of(text: &str) -> IdlFault {
     }
 }
 
-/// Returns the next word of what is left of a text from an offset on, and what is left behind it.
+/// Returns the next word of what is left of a text from an offset on, and what is left after it.
 fn next_word(rest: &str, at: usize) -> Result<(Word<'_>, &str), Fault>
     requires { at + length rest.now < 2 ^ 64 }
     ensures ok { IfOk result (λ found. Found at rest.now found.0 found.1.now) }

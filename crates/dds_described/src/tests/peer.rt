@@ -7,7 +7,7 @@ use std::alloc::Global;
 use std::test::Fail;
 
 /// What a peer wrote of one value: its payloads in both versions, its key payload, and the octets of
-/// its key hash without the zeros behind them.
+/// its key hash without the zeros after them.
 #[derive(Clone, Copy)]
 pub struct Written {
     pub values: [&'static str; 2],

@@ -4,7 +4,7 @@ use Rattle.std.proofs.iter.FirstChar.{beside_ascii}
 use Rattle.dds_idl.proofs.constants.spelled.Goals as goal
 use Rattle.dds_idl.proofs.constants.spelled.Goals.{then-octets-eq120-via-then-octets-eq120, then-octets-eq120-via-else-octets-eq120+then-octets-eq88}
 
--- a text may be cut behind an octet of ASCII
+-- a text may be cut after an octet of ASCII
 cut_behind : (word octets : List ℕ) (i n octet : ℕ) → IsUtf8 word → octets ≡ word
     → i < length word → n ≡ i + 1 → get_or octets i 0 ≡ octet → octet < 128
     → IsCharBoundary word n
