@@ -12,7 +12,7 @@ Names = BTreeMap (String Global) Meaning
 abbrev pub is_declared : Names → List ℕ → Bool
 is_declared names full = is_some (get_by_text names full)
 
--- a name in the innermost of the modules that declare it, outermost first and each by what stands
+-- a name in the innermost of the modules that declare it, outermost first and each by what comes
 -- before a name in it; the name alone where none does
 abbrev pub innermost : Names → List (String Global) → List ℕ → List ℕ
 innermost names prefixes name =

@@ -38,7 +38,7 @@ fn truth(cursor: &mut Cursor<'_>) -> Result<bool, Fault> {
     Ok(is)
 }
 
-/// Passes over what stands in parentheses, if they are there.
+/// Passes over what is in parentheses, if they are there.
 fn skip_parameters(cursor: &mut Cursor<'_>) -> Result<(), Fault> {
     if !cursor.take("(") {
         return Ok(());

@@ -69,7 +69,7 @@ struct Expression {
     open: usize,
 }
 
-/// Where an expression stands.
+/// Where an expression is.
 #[derive(Clone, Copy, Debug, PartialEq, Eq)]
 pub(crate) enum Ends {
     /// Before a `>`, so `>>` is no shift unless it is in parentheses.
@@ -131,7 +131,7 @@ impl Expression {
         Ok(())
     }
 
-    /// Takes what stands before a number.
+    /// Takes what comes before a number.
     fn prefixes(&mut self, cursor: &mut Cursor<'_>) -> Result<(), Fault> {
         for _ in 0..cursor.len() {
             let word = cursor.word();

@@ -17,7 +17,7 @@ const LONGEST_NAME: usize = 255;
 pub(crate) struct Draft {
     pub(crate) alloc: Global,
     pub(crate) made: Declarations,
-    /// The names of the open modules, outermost first, each with all that stands before a name in
+    /// The names of the open modules, outermost first, each with all that comes before a name in
     /// it: `nav_msgs::`, `nav_msgs::msg::`.
     prefixes: Vec<String>,
     /// The primitive types that are described already.
@@ -64,7 +64,7 @@ impl Draft {
         self.prefixes.is_empty()
     }
 
-    /// Returns what stands before a name that is declared now.
+    /// Returns what comes before a name that is declared now.
     fn prefix(&self) -> &str {
         match self.prefixes.last() {
             Some(prefix) => prefix.as_str(),

@@ -22,7 +22,7 @@ pub struct IdlError {
     pub line: usize,
     /// The column, counted from 1 in characters.
     pub column: usize,
-    /// The word that stands there, empty where none does.
+    /// The word that is there, empty where none does.
     pub word: String,
     /// Why it is refused. If it is `NoMemory`, the rest says nothing.
     pub what: IdlFault,

@@ -43,7 +43,7 @@ pub enum IdlFault {
     NotGiven,
     /// A text is included that is given later, or is this one.
     GivenLater,
-    /// `#pragma keylist`, for which `@key` stands here.
+    /// `#pragma keylist`, in whose place `@key` is read here.
     KeyList,
     /// A number isn't one, or is too large.
     BadNumber,
@@ -58,7 +58,7 @@ pub enum IdlFault {
 }
 
 impl IdlFault {
-    /// Returns what is said of a word: what stands before it, and what after it.
+    /// Returns what is said of a word: what comes before it, and what after it.
     pub(crate) fn parts(self) -> (&'static str, &'static str) {
         match self {
             IdlFault::NotUtf8 => ("the text isn't UTF-8", ""),

@@ -4,7 +4,7 @@ ghost use Rattle.std.specs.Prelude.{◌≡◌, ◌≤◌, length, slice_index};
 ghost use Rattle.dds_idl.specs.Gap.{behind, gap, is_gap};
 ghost use Rattle.dds_idl.specs.declared.gap.Within.TheVariants as within;
 
-/// What an octet stands within.
+/// What an octet is within.
 #[derive(Clone, Copy, Debug, PartialEq, Eq)]
 pub(crate) enum Within {
     /// No comment.

@@ -19,7 +19,7 @@ pub(crate) enum Kind {
     End,
 }
 
-/// A word, and what stands before it.
+/// A word, and what comes before it.
 #[derive(Clone, Copy, Debug)]
 pub(crate) struct Word<'a> {
     pub(crate) kind: Kind,

@@ -1,7 +1,7 @@
 //! Cutting a text into words.
 
-ghost use Rattle.std.specs.Prelude.{◌≡◌, ◌≤◌, ◌<◌, ◌+◌, ◌^◌, false, drop, length, IfErr, IfOk, IsUtf8};
-ghost use Rattle.dds_idl.specs.Words.{AreWords, Found, begins_name, front, is_numeric, is_wordy, literal_end, run};
+ghost use Rattle.std.specs.Prelude.{◌≡◌, Some, ◌≤◌, ◌<◌, ◌+◌, ◌^◌, false, drop, length, IfErr, IfOk, IsUtf8};
+ghost use Rattle.dds_idl.specs.Words.{AreWords, Found, begins_name, front, front_of, is_numeric, is_wordy, literal_end, run};
 ghost use Rattle.dds_idl.specs.declared.fault.IdlFault.TheVariants as faults;
 
 use crate::IdlFault;
@@ -73,50 +73,39 @@ fn literal_len(text: &[u8], quote: u8) -> Option<usize>
     None
 }
 
+/// Returns the kind and the length of a word.
+fn word_of(kind: Kind, len: usize) -> Option<Front>
+    ensures { result ≡ Some (front_of kind len) }
+{
+    Some(Front { kind, len })
+}
+
 /// Returns the word at the front of a text; `None` where none begins, or a literal doesn't end on
 /// its line.
 pub(crate) fn front_of(text: &[u8]) -> Option<Front>
     ensures { result ≡ front text.now }
 {
     let Some((first, rest)) = text.split_first() else {
-        return Some(Front {
-            kind: Kind::End,
-            len: 0,
-        });
+        return word_of(Kind::End, 0);
     };
     let octet = *first;
     if begins_name(octet) {
-        return Some(Front {
-            kind: Kind::Name,
-            len: name_len(text),
-        });
+        return word_of(Kind::Name, name_len(text));
     }
     if octet.is_ascii_digit() {
-        return Some(Front {
-            kind: Kind::Number,
-            len: number_len(text),
-        });
+        return word_of(Kind::Number, number_len(text));
     }
-    if octet == b'"' || octet == b'\'' {
-        let kind = if octet == b'"' {
-            Kind::Text
-        } else {
-            Kind::Character
-        };
-        let len = literal_len(text, octet)?;
-        return Some(Front { kind, len });
+    if octet == b'"' {
+        return word_of(Kind::Text, literal_len(text, octet)?);
+    }
+    if octet == b'\'' {
+        return word_of(Kind::Character, literal_len(text, octet)?);
     }
     if octet == b':' && first_octet(rest) == b':' {
-        return Some(Front {
-            kind: Kind::Scope,
-            len: 2,
-        });
+        return word_of(Kind::Scope, 2);
     }
     if octet.is_ascii_graphic() {
-        return Some(Front {
-            kind: Kind::Mark,
-            len: 1,
-        });
+        return word_of(Kind::Mark, 1);
     }
     None
 }

@@ -140,7 +140,7 @@ pub fn has_header(version: Version, item: &Node) -> bool
 /// one of the types.
 ///
 /// After a fault, which is one of those of [`TopicType::look_through`](crate::TopicType), the reader
-/// is somewhere behind the first octet of what is no value. No memory is taken.
+/// is somewhere after the first octet of what is no value. No memory is taken.
 #[cycle(walk)]
 pub fn skip(
     types: &Types,
