@@ -51,7 +51,7 @@ found_err A (Some x) u is = absurd (cc is)
 
 -- ---- numbers
 
-byte_bits : (w : Width) (n : ℕ) → n < 256 ^ byte_len w → cast_unsigned w (cast_signed w n) ≡ n
+pub byte_bits : (w : Width) (n : ℕ) → n < 256 ^ byte_len w → cast_unsigned w (cast_signed w n) ≡ n
 byte_bits w8 n h = of_z-to_z w8 n (omega (arith, h))
 byte_bits w16 n h = of_z-to_z w16 n (omega (arith, h))
 byte_bits w32 n h = of_z-to_z w32 n (omega (arith, h))
@@ -66,10 +66,10 @@ Numbers v size n end r w t =
 number_moved : (v : Version) (t : Xtype) (size n end : ℕ) (r : Cursor) (w : Output)
     → number_size t ≡ Some size → n < 256 ^ size
     → number_found (alignment v size) size r ≡ Some (n, end) → Numbers v size n end r w t
-number_moved v (Number k) size n end r w same fits is =
+number_moved v (Number style k) size n end r w same fits is =
     let one : k ≡ size = cc same in
-    subst (λ (j : ℕ). Numbers v size n end r w (Number j)) (sym one)
-    (ap (moved (λ at e x. written (Number size) at e x) (record { reader = r; writer = w })) is)
+    subst (λ (j : ℕ). Numbers v size n end r w (Number style j)) (sym one)
+    (ap (moved (λ at e x. written (Number style size) at e x) (record { reader = r; writer = w })) is)
 number_moved v (Signed width) size n end r w same fits is =
     let one : byte_len width ≡ size = cc same in
     let whole : n < 256 ^ byte_len width = subst (λ (k : ℕ). n < 256 ^ k) (sym one) fits in
@@ -83,14 +83,14 @@ number_moved v (Signed width) size n end r w same fits is =
       reader = placed r end;
       writer = put (λ at e. number_written (byte_len width) at e m) w;
     })) (byte_bits width n whole))
-number_moved v Enum size n end r w same fits is =
+number_moved v (Enum values) size n end r w same fits is =
     let one : 4 ≡ size = cc same in
     let whole : n < 256 ^ byte_len w32 = subst (λ (k : ℕ). n < 256 ^ k) (sym one) fits in
     let found : number_found (alignment v 4) 4 r ≡ Some (n, end) =
     subst (λ (k : ℕ). number_found (alignment v k) k r ≡ Some (n, end)) (sym one) is in
-    subst (λ (k : ℕ). Numbers v k n end r w Enum) one
+    subst (λ (k : ℕ). Numbers v k n end r w (Enum values)) one
     (ap (λ (f : Found ℕ).
-    moved (λ at e x. written Enum at e x) (record { reader = r; writer = w })
+    moved (λ at e x. written (Enum values) at e x) (record { reader = r; writer = w })
     (mapped (cast_signed w32) f)) found
     ∙ ap (λ (m : ℕ). Ok (record {
       reader = placed r end;
@@ -99,7 +99,7 @@ number_moved v Enum size n end r w same fits is =
 number_moved v Truth size n end r w same fits is = absurd (cc same)
 number_moved v (Text bound) size n end r w same fits is = absurd (cc same)
 number_moved v (Sequence t bound) size n end r w same fits is = absurd (cc same)
-number_moved v (Array t count) size n end r w same fits is = absurd (cc same)
+number_moved v (Array t dimensions) size n end r w same fits is = absurd (cc same)
 number_moved v (Struct fields) size n end r w same fits is = absurd (cc same)
 
 pub number_copied : (v : Version) (t : Xtype) (size n : ℕ) (r after : Cursor) (w wrote : Output)
@@ -120,25 +120,25 @@ number_copied v t size n r after w wrote s view same fits is place put_is =
 number_not : (v : Version) (t : Xtype) (size : ℕ) (s : Copy) → number_size t ≡ Some size
     → number_found (alignment v size) size s.reader ≡ None
     → copied v t s ≡ Err unread.Malformed
-number_not v (Number k) size s same is =
+number_not v (Number style k) size s same is =
     let one : k ≡ size = cc same in
-    subst (λ (j : ℕ). copied v (Number j) s ≡ Err unread.Malformed) (sym one)
-    (ap (moved (λ at e x. written (Number size) at e x) s) is)
+    subst (λ (j : ℕ). copied v (Number style j) s ≡ Err unread.Malformed) (sym one)
+    (ap (moved (λ at e x. written (Number style size) at e x) s) is)
 number_not v (Signed width) size s same is =
     let one : byte_len width ≡ size = cc same in
     let found : number_found (alignment v (byte_len width)) (byte_len width) s.reader ≡ None =
     subst (λ (k : ℕ). number_found (alignment v k) k s.reader ≡ None) (sym one) is in
     ap (λ (f : Found ℕ). moved (λ at e x. written (Signed width) at e x) s
     (mapped (cast_signed width) f)) found
-number_not v Enum size s same is =
+number_not v (Enum values) size s same is =
     let one : 4 ≡ size = cc same in
     let found : number_found (alignment v 4) 4 s.reader ≡ None =
     subst (λ (k : ℕ). number_found (alignment v k) k s.reader ≡ None) (sym one) is in
-    ap (λ (f : Found ℕ). moved (λ at e x. written Enum at e x) s (mapped (cast_signed w32) f)) found
+    ap (λ (f : Found ℕ). moved (λ at e x. written (Enum values) at e x) s (mapped (cast_signed w32) f)) found
 number_not v Truth size s same is = absurd (cc same)
 number_not v (Text bound) size s same is = absurd (cc same)
 number_not v (Sequence t bound) size s same is = absurd (cc same)
-number_not v (Array t count) size s same is = absurd (cc same)
+number_not v (Array t dimensions) size s same is = absurd (cc same)
 number_not v (Struct fields) size s same is = absurd (cc same)
 
 pub number_fails : (v : Version) (t : Xtype) (size : ℕ) (e : CatalogError) (r : Cursor) (w : Output)
@@ -153,7 +153,7 @@ number_fails v t size e r w s view same fails =
 
 -- ---- one after another
 
-put_more : (f g : ℕ → Endian → List ℕ) (w : Output)
+pub put_more : (f g : ℕ → Endian → List ℕ) (w : Output)
     → put (λ at e. f at e ++ g (at + length (f at e)) e) w ≡ put g (put f w)
 put_more f g w =
     let o : List ℕ = w.octets in
@@ -276,7 +276,7 @@ unfolding items_found
 no_items v t s =
     ap (λ (o : Output). Ok (record { reader = s.reader; writer = o })) (nothing_put s.writer)
 
-left_over : (n i : ℕ) → i < n → n - i ≡ suc (n - (i + 1))
+pub left_over : (n i : ℕ) → i < n → n - i ≡ suc (n - (i + 1))
 left_over n i more = omega (arith, more)
 
 -- one item more was copied

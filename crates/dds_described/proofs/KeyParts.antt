@@ -258,7 +258,7 @@ no_key_left true b same = absurd (cc same)
 no_key_left false b same = (refl, same)
 
 -- without key members none is kept
-none_kept : (fields : Fields) → has_key fields ≡ false → kept_fields true fields ≡ none
+pub none_kept : (fields : Fields) → has_key fields ≡ false → kept_fields true fields ≡ none
 none_kept none same = refl
 none_kept (field tag t fields) same =
     let parts = no_key_left tag.is_key (has_key fields) same in
@@ -285,13 +285,13 @@ pub keyed_copied : (v : Version) (t : Xtype) (s : Copy) → is_keyed t ≡ true
 keyed_copied v (Struct fields) s same =
     ap (λ (b : Bool). moves (λ c. values_found v fields c)
     (λ at e xs. all_fields (kept_fields b fields) at e (held_fields b fields xs)) s) (sym same)
-keyed_copied v (Number size) s same = absurd (cc same)
+keyed_copied v (Number style size) s same = absurd (cc same)
 keyed_copied v (Signed w) s same = absurd (cc same)
 keyed_copied v Truth s same = absurd (cc same)
-keyed_copied v Enum s same = absurd (cc same)
+keyed_copied v (Enum values) s same = absurd (cc same)
 keyed_copied v (Text bound) s same = absurd (cc same)
 keyed_copied v (Sequence t bound) s same = absurd (cc same)
-keyed_copied v (Array t count) s same = absurd (cc same)
+keyed_copied v (Array t dimensions) s same = absurd (cc same)
 
 pub unkeyed_copied : (v : Version) (t : Xtype) (s : Copy) → is_keyed t ≡ false
     → topic_key_copied v t s ≡ moves (λ c. value_found v t c) (λ at e x. []) s
@@ -299,33 +299,33 @@ unkeyed_copied v (Struct fields) s same =
     moves_alike (ValuesOf fields) (λ c. values_found v fields c)
     (λ at e xs. all_fields (kept_fields true fields) at e (held_fields true fields xs))
     (λ at e xs. []) s (λ xs at e. none_written fields same xs at e)
-unkeyed_copied v (Number size) s same = refl
+unkeyed_copied v (Number style size) s same = refl
 unkeyed_copied v (Signed w) s same = refl
 unkeyed_copied v Truth s same = refl
-unkeyed_copied v Enum s same = refl
+unkeyed_copied v (Enum values) s same = refl
 unkeyed_copied v (Text bound) s same = refl
 unkeyed_copied v (Sequence t bound) s same = refl
-unkeyed_copied v (Array t count) s same = refl
+unkeyed_copied v (Array t dimensions) s same = refl
 
 pub keyed_type : (t : Xtype) → is_keyed t ≡ true → key_type t ≡ holder t
 keyed_type (Struct fields) same =
     ap (λ (b : Bool). Struct (kept_fields b fields)) (sym same)
-keyed_type (Number size) same = absurd (cc same)
+keyed_type (Number style size) same = absurd (cc same)
 keyed_type (Signed w) same = absurd (cc same)
 keyed_type Truth same = absurd (cc same)
-keyed_type Enum same = absurd (cc same)
+keyed_type (Enum values) same = absurd (cc same)
 keyed_type (Text bound) same = absurd (cc same)
 keyed_type (Sequence t bound) same = absurd (cc same)
-keyed_type (Array t count) same = absurd (cc same)
+keyed_type (Array t dimensions) same = absurd (cc same)
 
 pub unkeyed_type : (v : Version) (t : Xtype) (s : Copy) → is_keyed t ≡ false
     → copied v (key_type t) s ≡ Ok s
 unkeyed_type v (Struct fields) s same =
     ap (λ (fs : Fields). fields_copied v fs s) (none_kept fields same) ∙ no_fields v s
-unkeyed_type v (Number size) s same = no_fields v s
+unkeyed_type v (Number style size) s same = no_fields v s
 unkeyed_type v (Signed w) s same = no_fields v s
 unkeyed_type v Truth s same = no_fields v s
-unkeyed_type v Enum s same = no_fields v s
+unkeyed_type v (Enum values) s same = no_fields v s
 unkeyed_type v (Text bound) s same = no_fields v s
 unkeyed_type v (Sequence t bound) s same = no_fields v s
-unkeyed_type v (Array t count) s same = no_fields v s
+unkeyed_type v (Array t dimensions) s same = no_fields v s

@@ -11,6 +11,7 @@ use Rattle.rtps_cdr.specs.Reading.{Cursor, aligned, bool_in, number_in, placed, 
 use Rattle.rtps_cdr.proofs.Related.{bool_law, is_true, take-add, unsigned_law}
 use Rattle.rtps_cdr.proofs.Counted.{text_law}
 use Rattle.dds_xcdr.specs.declared.version.Version.{Version}
+use Rattle.dds_xcdr.specs.Product.{product}
 use Rattle.dds_xcdr.specs.Xtype.{Xtype, Fields, Tag, Number, Signed, Truth, Enum, Text, Sequence, Array, Struct, none, field, ValueOf, ValuesOf}
 use Rattle.dds_xcdr.specs.Xcdr.{AreFields, IsCounted, IsHeaded, IsNumber, IsWithin, IsXcdr, alignment, has_header}
 use Rattle.dds_described.specs.Reading.{Found, found, mapped, tested, number_found, is_within, items_found, counted_found, headed_found, value_found, values_found}
@@ -256,15 +257,15 @@ array_back v t count at e true os xs h = (h.1.0, h.1.1, h.1.2, h.1.3, (h.0, h.1.
 mutual
   pub lawful : (v : Version) (t : Xtype) (c : Cursor) → Within c
       → Finds (ValueOf t) (Encodes v t c) c (value_found v t c)
-  lawful v (Number size) c within = number_finds v size c within
+  lawful v (Number style size) c within = number_finds v size c within
   lawful v (Signed w) c within =
       mapped_finds ℕ (ValueOf (Signed w)) (λ at os n. IsNumber v (byte_len w) at c.endian os n)
       (Encodes v (Signed w) c) c (cast_signed w)
       (number_found (alignment v (byte_len w)) (byte_len w) c) (λ os n is. (n, is, refl))
       (λ os z is. (is.0, sym is.2, is.1)) (number_finds v (byte_len w) c within)
   lawful v Truth c within = cdr_finds Boolean c (bool_in c) (bool_law c)
-  lawful v Enum c within =
-      mapped_finds ℕ (ValueOf Enum) (λ at os n. IsNumber v 4 at c.endian os n) (Encodes v Enum c) c
+  lawful v (Enum values) c within =
+      mapped_finds ℕ (ValueOf (Enum values)) (λ at os n. IsNumber v 4 at c.endian os n) (Encodes v (Enum values) c) c
       (cast_signed w32) (number_found (alignment v 4) 4 c) (λ os n is. (n, is, refl))
       (λ os z is. (is.0, sym is.2, is.1)) (number_finds v 4 c within)
   lawful v (Text bound) c within =
@@ -283,18 +284,18 @@ mutual
       (λ d. counted_found (λ e. value_found v t e) d)
       (λ d inside. counted_finds (ValueOf t) (λ e q items x. IsXcdr v t q e items x)
       (λ e. value_found v t e) (λ e inner. lawful v t e inner) d inside) c within)
-  lawful v (Array t count) c within =
+  lawful v (Array t dimensions) c within =
       finds_as (List (ValueOf t))
       (λ at os xs. IsHeaded (has_header v t) at c.endian
-      (λ p ps. Items (ValueOf t) (λ q items x. IsXcdr v t q c.endian items x) count p ps xs) os)
-      (Encodes v (Array t count) c) c _
-      (λ os xs h. array_there v t count c.position c.endian (has_header v t) os xs h)
-      (λ os xs h. array_back v t count c.position c.endian (has_header v t) os xs h)
+      (λ p ps. Items (ValueOf t) (λ q items x. IsXcdr v t q c.endian items x) (product dimensions) p ps xs) os)
+      (Encodes v (Array t dimensions) c) c _
+      (λ os xs h. array_there v t (product dimensions) c.position c.endian (has_header v t) os xs h)
+      (λ os xs h. array_back v t (product dimensions) c.position c.endian (has_header v t) os xs h)
       (headed_finds (List (ValueOf t))
-      (λ e p ps xs. Items (ValueOf t) (λ q items x. IsXcdr v t q e items x) count p ps xs)
-      (has_header v t) (λ d. items_found (λ e. value_found v t e) count d)
+      (λ e p ps xs. Items (ValueOf t) (λ q items x. IsXcdr v t q e items x) (product dimensions) p ps xs)
+      (has_header v t) (λ d. items_found (λ e. value_found v t e) (product dimensions) d)
       (λ d inside. all_finds (ValueOf t) (λ e q items x. IsXcdr v t q e items x)
-      (λ e. value_found v t e) (λ e inner. lawful v t e inner) count d inside) c within)
+      (λ e. value_found v t e) (λ e inner. lawful v t e inner) (product dimensions) d inside) c within)
   lawful v (Struct fields) c within = lawful_fields v fields c within
 
   lawful_fields : (v : Version) (fields : Fields) (c : Cursor) → Within c

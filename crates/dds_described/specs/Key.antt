@@ -15,13 +15,13 @@ is_left_out keyed tag = keyed && not tag.is_key
 -- members if none is one; of others all
 abbrev mutual
   pub holder : Xtype → Xtype
-  holder (Number size) = Number size
+  holder (Number style size) = Number style size
   holder (Signed w) = Signed w
   holder Truth = Truth
-  holder Enum = Enum
+  holder (Enum values) = Enum values
   holder (Text bound) = Text bound
   holder (Sequence t bound) = Sequence t bound
-  holder (Array t count) = Array t count
+  holder (Array t dimensions) = Array t dimensions
   holder (Struct fields) = Struct (kept_fields (has_key fields) fields)
 
   pub kept_fields : Bool → Fields → Fields
@@ -39,13 +39,13 @@ with_first false tag t fields x xs = (x, xs)
 -- that part of a value
 abbrev mutual
   pub held : (t : Xtype) → ValueOf t → ValueOf (holder t)
-  held (Number size) x = x
+  held (Number style size) x = x
   held (Signed w) x = x
   held Truth x = x
-  held Enum x = x
+  held (Enum values) x = x
   held (Text bound) x = x
   held (Sequence t bound) x = x
-  held (Array t count) x = x
+  held (Array t dimensions) x = x
   held (Struct fields) xs = held_fields (has_key fields) fields xs
 
   pub held_fields : (keyed : Bool) (fields : Fields) → ValuesOf fields
@@ -67,11 +67,11 @@ is_keyed other = false
 
 -- the key of a value
 abbrev pub key_of : (t : Xtype) → ValueOf t → ValueOf (key_type t)
-key_of (Number size) x = tt
+key_of (Number style size) x = tt
 key_of (Signed w) x = tt
 key_of Truth x = tt
-key_of Enum x = tt
+key_of (Enum values) x = tt
 key_of (Text bound) x = tt
 key_of (Sequence t bound) x = tt
-key_of (Array t count) x = tt
+key_of (Array t dimensions) x = tt
 key_of (Struct fields) xs = held_fields true fields xs

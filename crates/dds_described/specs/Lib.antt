@@ -5,3 +5,10 @@ pub mod Writing
 pub mod Key
 pub mod Copying
 pub mod Decoded
+pub mod Least
+pub mod Hash
+pub mod Part
+pub mod Decoding
+pub mod JsonText
+pub mod Json
+pub mod Printing

@@ -6,6 +6,7 @@ use Rattle.rtps_types.specs.declared.field.Endian.{Endian}
 use Rattle.rtps_types.specs.Field.{number}
 use Rattle.rtps_cdr.specs.Reading.{Cursor, Read, aligned, bool_in, number_in, placed, text_in}
 use Rattle.dds_xcdr.specs.declared.version.Version.{Version}
+use Rattle.dds_xcdr.specs.Product.{product}
 use Rattle.dds_xcdr.specs.Xtype.{Xtype, Fields, Number, Signed, Truth, Enum, Text, Sequence, Array, Struct, none, field, ValueOf, ValuesOf}
 use Rattle.dds_xcdr.specs.Xcdr.{alignment, has_header}
 
@@ -74,18 +75,18 @@ headed_found true read c =
 -- the value of a type where a reader is
 abbrev mutual
   pub value_found : Version → (t : Xtype) → Cursor → Found (ValueOf t)
-  value_found v (Number size) c = number_found (alignment v size) size c
+  value_found v (Number style size) c = number_found (alignment v size) size c
   value_found v (Signed w) c =
       mapped (cast_signed w) (number_found (alignment v (byte_len w)) (byte_len w) c)
   value_found v Truth c = found (bool_in c)
-  value_found v Enum c = mapped (cast_signed w32) (number_found (alignment v 4) 4 c)
+  value_found v (Enum values) c = mapped (cast_signed w32) (number_found (alignment v 4) 4 c)
   value_found v (Text bound) c =
       tested (λ text end. is_within bound (length text)) (found (text_in c))
   value_found v (Sequence t bound) c =
       tested (λ xs end. is_within bound (length xs))
       (headed_found (has_header v t) (λ d. counted_found (λ e. value_found v t e) d) c)
-  value_found v (Array t count) c =
-      headed_found (has_header v t) (λ d. items_found (λ e. value_found v t e) count d) c
+  value_found v (Array t dimensions) c =
+      headed_found (has_header v t) (λ d. items_found (λ e. value_found v t e) (product dimensions) d) c
   value_found v (Struct fields) c = values_found v fields c
 
   pub values_found : Version → (fields : Fields) → Cursor → Found (ValuesOf fields)

@@ -12,15 +12,15 @@ put f o = record { octets = o.octets ++ f (length o.octets) o.endian; endian = o
 -- the octets of a value at a position
 abbrev mutual
   pub written : (t : Xtype) → ℕ → Endian → ValueOf t → List ℕ
-  written (Number size) at e n = number_written size at e n
+  written (Number style size) at e n = number_written size at e n
   written (Signed w) at e z = number_written (byte_len w) at e (cast_unsigned w z)
   written Truth at e b = (if b then 1 else 0) ∷ []
-  written Enum at e z = number_written 4 at e (cast_unsigned w32 z)
+  written (Enum values) at e z = number_written 4 at e (cast_unsigned w32 z)
   written (Text bound) at e text = text_written at e text
   written (Sequence t bound) at e xs =
       number_written 4 at e (length xs)
       ++ all_written (λ p x. written t p e x) (at + length (number_written 4 at e (length xs))) xs
-  written (Array t count) at e xs = all_written (λ p x. written t p e x) at xs
+  written (Array t dimensions) at e xs = all_written (λ p x. written t p e x) at xs
   written (Struct fields) at e xs = all_fields fields at e xs
 
   pub all_fields : (fields : Fields) → ℕ → Endian → ValuesOf fields → List ℕ

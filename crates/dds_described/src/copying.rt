@@ -10,7 +10,7 @@ ghost use Rattle.dds_described.specs.Copying.{copied, counted_copied, fields_cop
 
 use crate::copier::{Copier, is_behind, is_within};
 use dds_topic::{CatalogError, Unread};
-use dds_xcdr::{Member, Node, TypeId, Types, Version, has_header};
+use dds_xcdr::{Dimensions, Member, Node, TypeId, Types, Version, has_header};
 
 /// Copies a value of a type.
 #[cycle(copy)]
@@ -29,9 +29,7 @@ pub(crate) fn copy(
         Node::Enum(_) => copier.copy_number(version, 4),
         Node::Text(bound) => copier.copy_text(*bound),
         Node::Sequence(item, bound) => copy_sequence(types, *item, *bound, version, copier),
-        Node::Array(item, dimensions) => {
-            copy_array(types, *item, dimensions.count(), version, copier)
-        }
+        Node::Array(item, dimensions) => { copy_array(types, *item, dimensions, version, copier) }
         Node::Struct(members) => copy_members(types, of, members.as_slice(), version, copier),
     }
 }
@@ -99,23 +97,24 @@ fn copy_counted(
 fn copy_array(
     types: &Types,
     item: TypeId,
-    count: u32,
+    dimensions: &Dimensions,
     version: Version,
     copier: &mut Copier<'_>,
 ) -> Result<(), CatalogError>
     requires { item.0 < length types.now }
-    ensures { Gives (λ _. copier.new) result
-        (copied version (Array (type_in (types_of types.now) item) count) copier.old) }
+    ensures { let t = type_in (types_of types.now) item in
+        Gives (λ _. copier.new) result
+        (copied version (Array t dimensions.now.sizes.items) copier.old) }
 {
     if !has_header(version, types.node(item)) {
-        return copy_items(types, item, count, version, copier);
+        return copy_items(types, item, dimensions.count(), version, copier);
     }
     let octets = match copier.read_count() {
         Ok(octets) => octets,
         Err(error) => return Err(error),
     };
     let start = copier.position();
-    match copy_items(types, item, count, version, copier) {
+    match copy_items(types, item, dimensions.count(), version, copier) {
         Ok(()) => {
             if is_behind(start, octets, copier.position()) {
                 Ok(())

@@ -165,7 +165,7 @@ fn copy_holder_member(
 }
 
 /// Whether a topic of a type has a key.
-fn is_keyed(node: &Node) -> bool
+pub(crate) fn is_keyed(node: &Node) -> bool
     ensures { (types : List Xtype) → result ≡ is_keyed (meant types node.now) }
 {
     match node {

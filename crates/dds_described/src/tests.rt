@@ -1,9 +1,11 @@
 //! Values and keys that a peer wrote.
 
+mod hashes;
+mod json;
 mod peer;
 
 use crate::Described;
-use dds_topic::{CatalogError, Unread};
+use dds_topic::{Catalog, CatalogError, Unread};
 use dds_xcdr::{Dimensions, Member, Primitive, TopicType, Types};
 use peer::{EMP, ENUM_SEQ, K1, K3, K4, K6, NUM, Written, emp, enum_seq, k1, k3, k4, k6, num};
 use rtps_types::Endian;
@@ -49,9 +51,9 @@ fn keeps(alloc: Global, catalog: &Described, written: Written) -> Result<bool, F
         if more.octets() != whole.octets() || more.form() != whole.form() {
             return Ok(false);
         }
-        let key = catalog.key_of_value(alloc, Endian::Big, &whole)?;
-        let low = catalog.key_of_value(alloc, Endian::Little, &whole)?;
-        let again = catalog.key_of_payload(alloc, Endian::Big, 1, low.as_slice())?;
+        let key = catalog.key_octets(alloc, Endian::Big, &whole)?;
+        let low = catalog.key_octets(alloc, Endian::Little, &whole)?;
+        let again = catalog.payload_key_octets(alloc, Endian::Big, 1, low.as_slice())?;
         if key.as_slice() != hash.as_slice() || again.as_slice() != hash.as_slice() {
             return Ok(false);
         }
@@ -64,12 +66,12 @@ fn reads_key(alloc: Global, catalog: &Described, written: Written) -> Result<boo
     let hash = hex::decode(alloc, written.hash)?;
     let (kind, body) = parts(alloc, written.key)?;
     for count in 0..body.len() {
-        let cut = catalog.key_of_payload(alloc, Endian::Big, kind, &body[..count]);
+        let cut = catalog.payload_key_octets(alloc, Endian::Big, kind, &body[..count]);
         if cut.err() != Some(MALFORMED) {
             return Ok(false);
         }
     }
-    let key = catalog.key_of_payload(alloc, Endian::Big, kind, body.as_slice())?;
+    let key = catalog.payload_key_octets(alloc, Endian::Big, kind, body.as_slice())?;
     Ok(key.as_slice() == hash.as_slice())
 }
 
@@ -105,32 +107,28 @@ fn version_2_is_written_as_version_1(rt: HostRuntime) -> Result<(), Fail> {
     let (kind, mut body) = parts(alloc, ENUM_SEQ[1])?;
     let (_, wanted) = parts(alloc, ENUM_SEQ[0])?;
     let value = catalog.read(alloc, kind, body.as_slice())?;
-    let key = catalog.key_of_value(alloc, Endian::Little, &value)?;
+    let key = catalog.key_octets(alloc, Endian::Little, &value)?;
     assert!(rt; key.as_slice() == wanted.as_slice());
-    let again = catalog.key_of_payload(alloc, Endian::Little, kind, body.as_slice())?;
+    let again = catalog.payload_key_octets(alloc, Endian::Little, kind, body.as_slice())?;
     assert!(rt; again.as_slice() == wanted.as_slice());
     // The header counts one octet less than its items have.
     if let Some(first) = body.first_mut() {
         *first = 11;
     }
-    let cut = catalog.key_of_payload(alloc, Endian::Little, kind, body.as_slice());
+    let cut = catalog.payload_key_octets(alloc, Endian::Little, kind, body.as_slice());
     assert!(rt; cut.err() == Some(MALFORMED));
     Ok(())
 }
 
-/// A parameter list, and a value of another catalog: the octets of K4 are too few for a K3.
+/// A parameter list.
 #[test]
 fn what_is_not_read_has_a_name(rt: HostRuntime) -> Result<(), Fail> {
     let alloc = rt.alloc();
     let encapsulation = Some(CatalogError::Unread(Unread::Encapsulation));
     let catalog = k3(alloc)?;
     assert!(rt; catalog.read(alloc, 3, &[0; 24]).err() == encapsulation);
-    let key = catalog.key_of_payload(alloc, Endian::Big, 3, &[0; 24]);
+    let key = catalog.payload_key_octets(alloc, Endian::Big, 3, &[0; 24]);
     assert!(rt; key.err() == encapsulation);
-    let (kind, body) = parts(alloc, K4.values[0])?;
-    let other = k4(alloc)?.read(alloc, kind, body.as_slice())?;
-    let key = catalog.key_of_value(alloc, Endian::Big, &other);
-    assert!(rt; key.err() == Some(MALFORMED));
     Ok(())
 }
 
@@ -161,8 +159,8 @@ fn the_example_runs(rt: HostRuntime) -> Result<(), Fail> {
         alloc,
         "0200000061000000000000000000f03f00000000000000400000000000000840",
     )?;
-    let value = poses.read(alloc, 7, body.as_slice())?;
-    let key = poses.key_of_value(alloc, Endian::Little, &value)?;
+    let value = poses.decode(alloc, 7, body.as_slice())?;
+    let key = poses.key_payload(alloc, &value)?;
     assert!(rt; key.as_slice() == b"\x02\0\0\0a\0".as_slice());
     Ok(())
 }

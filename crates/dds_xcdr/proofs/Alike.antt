@@ -8,7 +8,7 @@ use Rattle.dds_xcdr.specs.declared.version.Version.{Version}
 use Rattle.dds_xcdr.specs.declared.fault.XcdrFault.{XcdrFault}
 use Rattle.dds_xcdr.specs.declared.primitive.Primitive.{Primitive}
 use Rattle.dds_xcdr.specs.declared.primitive.Primitive.TheVariants.{Boolean, Octet, Char, Int8, Uint8, Int16, Uint16, Int32, Uint32, Int64, Uint64, Float, Double}
-use Rattle.dds_xcdr.specs.Xtype.{Xtype, Number, Signed, Truth, Enum, Text, Sequence, Array, Struct, ValueOf, number_size}
+use Rattle.dds_xcdr.specs.Xtype.{Xtype, Digits, Number, Signed, Truth, Enum, Text, Sequence, Array, Struct, ValueOf, number_size}
 use Rattle.dds_xcdr.specs.Xcdr.{IsXcdr}
 use Rattle.dds_xcdr.specs.Types.{plain}
 use Rattle.dds_xcdr.specs.Spans.{AreItems, IsTruth, IsValue, Passes}
@@ -16,42 +16,42 @@ use Rattle.dds_xcdr.proofs.Spans.{passes_as}
 
 -- a value is there as a number
 as_number : (v : Version) (t : Xtype) (size : ℕ) (e : Endian) → number_size t ≡ Some size
-    → (at : ℕ) (octets : List ℕ) → IsValue v t e at octets → IsValue v (Number size) e at octets
-as_number v (Number k) size e same at octets x =
-    let P : ℕ → Type 0 = λ n. IsValue v (Number n) e at octets in
+    → (at : ℕ) (octets : List ℕ) → IsValue v t e at octets → IsValue v (Number Digits size) e at octets
+as_number v (Number style k) size e same at octets x =
+    let P : ℕ → Type 0 = λ n. IsValue v (Number Digits n) e at octets in
     subst P (cc same) x
 as_number v (Signed w) size e same at octets x =
-    let P : ℕ → Type 0 = λ n. IsValue v (Number n) e at octets in
-    let y : IsValue v (Number (byte_len w)) e at octets = (x.1.0, x.1.1) in
+    let P : ℕ → Type 0 = λ n. IsValue v (Number Digits n) e at octets in
+    let y : IsValue v (Number Digits (byte_len w)) e at octets = (x.1.0, x.1.1) in
     subst P (cc same) y
-as_number v Enum size e same at octets x =
-    let P : ℕ → Type 0 = λ n. IsValue v (Number n) e at octets in
-    let y : IsValue v (Number 4) e at octets = (x.1.0, x.1.1) in
+as_number v (Enum values) size e same at octets x =
+    let P : ℕ → Type 0 = λ n. IsValue v (Number Digits n) e at octets in
+    let y : IsValue v (Number Digits 4) e at octets = (x.1.0, x.1.1) in
     subst P (cc same) y
 as_number v Truth size e same at octets x = absurd (cc same)
 as_number v (Text bound) size e same at octets x = absurd (cc same)
 as_number v (Sequence t bound) size e same at octets x = absurd (cc same)
-as_number v (Array t count) size e same at octets x = absurd (cc same)
+as_number v (Array t dimensions) size e same at octets x = absurd (cc same)
 as_number v (Struct fields) size e same at octets x = absurd (cc same)
 
 -- and where a number is, a value is
 of_number : (v : Version) (t : Xtype) (size : ℕ) (e : Endian) → number_size t ≡ Some size
-    → (at : ℕ) (octets : List ℕ) → IsValue v (Number size) e at octets → IsValue v t e at octets
-of_number v (Number k) size e same at octets x =
-    let P : ℕ → Type 0 = λ n. IsValue v (Number n) e at octets in
+    → (at : ℕ) (octets : List ℕ) → IsValue v (Number Digits size) e at octets → IsValue v t e at octets
+of_number v (Number style k) size e same at octets x =
+    let P : ℕ → Type 0 = λ n. IsValue v (Number Digits n) e at octets in
     subst P (cc same) x
 of_number v (Signed w) size e same at octets x =
-    let P : ℕ → Type 0 = λ n. IsValue v (Number n) e at octets in
-    let y : IsValue v (Number (byte_len w)) e at octets = subst P (cc same) x in
+    let P : ℕ → Type 0 = λ n. IsValue v (Number Digits n) e at octets in
+    let y : IsValue v (Number Digits (byte_len w)) e at octets = subst P (cc same) x in
     (cast_signed w y.0, (y.0, y.1, refl))
-of_number v Enum size e same at octets x =
-    let P : ℕ → Type 0 = λ n. IsValue v (Number n) e at octets in
-    let y : IsValue v (Number 4) e at octets = subst P (cc same) x in
+of_number v (Enum values) size e same at octets x =
+    let P : ℕ → Type 0 = λ n. IsValue v (Number Digits n) e at octets in
+    let y : IsValue v (Number Digits 4) e at octets = subst P (cc same) x in
     (cast_signed w32 y.0, (y.0, y.1, refl))
 of_number v Truth size e same at octets x = absurd (cc same)
 of_number v (Text bound) size e same at octets x = absurd (cc same)
 of_number v (Sequence t bound) size e same at octets x = absurd (cc same)
-of_number v (Array t count) size e same at octets x = absurd (cc same)
+of_number v (Array t dimensions) size e same at octets x = absurd (cc same)
 of_number v (Struct fields) size e same at octets x = absurd (cc same)
 
 -- the same of all of them
@@ -76,13 +76,13 @@ items_as v s t n e same at octets items =
 -- items that are encoded as numbers are passed as numbers
 pub items_alike : (v : Version) (t : Xtype) (size n : ℕ) (c after : Cursor)
     (r : Result (Unit {0}) XcdrFault) → number_size t ≡ Some size
-    → Passes (AreItems v (Number size) n c.endian) c after r
+    → Passes (AreItems v (Number Digits size) n c.endian) c after r
     → Passes (AreItems v t n c.endian) c after r
 items_alike v t size n c after r same p =
-    passes_as (AreItems v (Number size) n c.endian) (AreItems v t n c.endian) c after r
-    (λ at octets x. items_as v (Number size) t n c.endian
+    passes_as (AreItems v (Number Digits size) n c.endian) (AreItems v t n c.endian) c after r
+    (λ at octets x. items_as v (Number Digits size) t n c.endian
     (λ q os y. of_number v t size c.endian same q os y) at octets x)
-    (λ at octets x. items_as v t (Number size) n c.endian
+    (λ at octets x. items_as v t (Number Digits size) n c.endian
     (λ q os y. as_number v t size c.endian same q os y) at octets x) p
 
 -- a value is one item
@@ -107,7 +107,7 @@ of_single v t e at octets items = of_list v t e at octets items.0 items.1 items.
 -- a value that is encoded as a number is passed as one number
 pub value_alike : (v : Version) (t : Xtype) (size : ℕ) (c after : Cursor)
     (r : Result (Unit {0}) XcdrFault) → number_size t ≡ Some size
-    → Passes (AreItems v (Number size) 1 c.endian) c after r
+    → Passes (AreItems v (Number Digits size) 1 c.endian) c after r
     → Passes (IsValue v t c.endian) c after r
 value_alike v t size c after r same p =
     passes_as (AreItems v t 1 c.endian) (IsValue v t c.endian) c after r

@@ -41,7 +41,7 @@ meant_extends types more (node.Text bound) below = refl
 meant_extends types more (node.Sequence item bound) below =
     ap (λ (t : Xtype). Sequence t bound) (type_extends types more item below)
 meant_extends types more (node.Array item dimensions) below =
-    ap (λ (t : Xtype). Array t dimensions.count) (type_extends types more item below)
+    ap (λ (t : Xtype). Array t dimensions.sizes.items) (type_extends types more item below)
 meant_extends types more (node.Struct members) below =
     ap Struct (fields_extend types more members.items below)
 

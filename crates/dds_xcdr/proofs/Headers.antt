@@ -8,6 +8,7 @@ use Rattle.rtps_cdr.specs.Reading.{Cursor, Reads, Takes}
 use Rattle.dds_xcdr.specs.declared.version.Version.{Version}
 use Rattle.dds_xcdr.specs.declared.fault.XcdrFault.{XcdrFault}
 use Rattle.dds_xcdr.specs.declared.fault.XcdrFault.TheVariants.{Cdr, Encapsulation, TooLong}
+use Rattle.dds_xcdr.specs.Product.{product}
 use Rattle.dds_xcdr.specs.Xtype.{Xtype, Array, Sequence, ValueOf}
 use Rattle.dds_xcdr.specs.Xcdr.{IsCounted, IsHeaded, IsWithin, IsXcdr, has_header}
 use Rattle.dds_xcdr.specs.Spans.{AreCountedItems, AreItems, IsValue, Passes, Spans}
@@ -337,15 +338,18 @@ array_of : (v : Version) (t : Xtype) (n : ℕ) (e : Endian) (h : Bool) (at : ℕ
 array_of v t n e false at octets s = (s.0, s.1.0, s.1.1)
 array_of v t n e true at octets s = (s.1.1.0, s.1.1.1, s.1.1.2, s.1.1.3, (s.0, s.1.0, s.1.1.4))
 
-pub array_passes : (v : Version) (t : Xtype) (n : ℕ) (h : Bool) (c after : Cursor)
-    (r : Result (Unit {0}) XcdrFault) → h ≡ has_header v t
-    → Passes (λ at octets. IsHeaded h at c.endian (AreItems v t n c.endian) octets) c after r
-    → Passes (IsValue v (Array t n) c.endian) c after r
-array_passes v t n h c after r same p =
+pub array_passes : (v : Version) (t : Xtype) (sizes : List ℕ) (n : ℕ) (h : Bool)
+    (c after : Cursor) (r : Result (Unit {0}) XcdrFault) → n ≡ product sizes
+    → h ≡ has_header v t → Passes (λ at octets. IsHeaded h at c.endian (AreItems v t n c.endian) octets) c after r
+    → Passes (IsValue v (Array t sizes) c.endian) c after r
+array_passes v t sizes n h c after r all same p =
+    let Q : ℕ → Type 0 = λ k. Passes
+    (λ at octets. IsHeaded h at c.endian (AreItems v t k c.endian) octets) c after r in
+    let n : ℕ = product sizes in
     let H : Bool → Type 0 = λ b. Passes
     (λ at octets. IsHeaded b at c.endian (AreItems v t n c.endian) octets) c after r in
     passes_as (λ at octets. IsHeaded (has_header v t) at c.endian (AreItems v t n c.endian) octets)
-    (IsValue v (Array t n) c.endian) c after r
+    (IsValue v (Array t sizes) c.endian) c after r
     (λ at octets s. array_at v t n c.endian (has_header v t) at octets s)
     (λ at octets s. array_of v t n c.endian (has_header v t) at octets s)
-    (subst H same p)
+    (subst H same (subst Q all p))

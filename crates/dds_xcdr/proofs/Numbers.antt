@@ -8,7 +8,7 @@ use Rattle.dds_xcdr.specs.declared.version.Version.{Version}
 use Rattle.dds_xcdr.specs.declared.version.Version.TheVariants.{One, Two}
 use Rattle.dds_xcdr.specs.declared.fault.XcdrFault.{XcdrFault}
 use Rattle.dds_xcdr.specs.Xcdr.{IsNumber, alignment}
-use Rattle.dds_xcdr.specs.Xtype.{Number}
+use Rattle.dds_xcdr.specs.Xtype.{Digits, Number}
 use Rattle.dds_xcdr.specs.Spans.{AreItems, IsSize, Passes, Skips}
 use Rattle.dds_xcdr.proofs.Spans.{by_length}
 
@@ -93,7 +93,7 @@ one_there v size at e octets long =
     )
 
 all_there : (v : Version) (size n at : ℕ) (e : Endian) (octets : List ℕ)
-    → length octets ≡ extent v size n at → AreItems v (Number size) n e at octets
+    → length octets ≡ extent v size n at → AreItems v (Number Digits size) n e at octets
 all_there v size zero at e [] long = ([], refl, refl)
 all_there v size zero at e (o ∷ os) long = absurd (omega (arith, long))
 all_there v size (suc n) at e octets long =
@@ -135,7 +135,7 @@ xs_long v size at e octets (x ∷ xs) all =
     ap length all.2 ∙ length-append all.0 all.1 ∙ omega (arith, first, rest)
 
 all_long : (v : Version) (size n at : ℕ) (e : Endian) (octets : List ℕ)
-    → AreItems v (Number size) n e at octets → length octets ≡ extent v size n at
+    → AreItems v (Number Digits size) n e at octets → length octets ≡ extent v size n at
 all_long v size n at e octets items = xs_long v size at e octets items.0 items.2
     ∙ ap (λ (k : ℕ). extent v size k at) items.1
 
@@ -148,14 +148,14 @@ size_some size (inr (inr (inr e))) = omega (arith, e)
 -- numbers are passed with all of their octets
 pub numbers_pass : (v : Version) (size n : ℕ) (c after : Cursor) (r : Result (Unit {0}) XcdrFault)
     → IsSize size → n ≢ 0 → Skips (padding (alignment v size) c.position + size * n) c after r
-    → Passes (AreItems v (Number size) n c.endian) c after r
+    → Passes (AreItems v (Number Digits size) n c.endian) c after r
 numbers_pass v size zero c after r is some skips = absurd (some refl)
 numbers_pass v size (suc n) c after r is some skips =
     let whole : padding (alignment v size) c.position + size * suc n ≡ extent v size (suc n)
     c.position = sym (extent_all v size c.position n is) in
     let more : 0 < size = size_some size is in
     let S : ℕ → Type 0 = λ k. Skips k c after r in
-    by_length (AreItems v (Number size) (suc n) c.endian) (extent v size (suc n) c.position) c after
+    by_length (AreItems v (Number Digits size) (suc n) c.endian) (extent v size (suc n) c.position) c after
     r (omega arith)
     (λ octets long. all_there v size (suc n) c.position c.endian octets long)
     (λ octets items. all_long v size (suc n) c.position c.endian octets items)

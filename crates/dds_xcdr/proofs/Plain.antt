@@ -1,5 +1,5 @@
 -- Version 1 against the common data representation, type by type.
-use Rattle.std.proofs.Common.{◌≡◌, ℕ, ◌+◌, List, [], ◌∷◌, ◌++◌, length, map, slice_index, refl, sym, ◌∙◌, ap, arith, append-nil}
+use Rattle.std.proofs.Common.{mul-one, ◌≡◌, ℕ, ◌+◌, List, [], ◌∷◌, ◌++◌, length, map, slice_index, refl, sym, ◌∙◌, ap, arith, append-nil}
 use Rattle.std.proofs.lemmas.List.{length-map}
 use Rattle.std.specs.Int.{byte_len}
 use Rattle.rtps_types.specs.declared.field.Endian.{Endian}
@@ -121,7 +121,7 @@ plain_to (Unsigned size) at e octets n h = number_to size at e octets n h
 plain_to (CdrSigned w) at e octets z h = (h.0, number_to (byte_len w) at e octets h.0 h.1, h.2)
 plain_to Boolean at e octets b h = h
 plain_to CdrText at e octets text h = (h, tt)
-plain_to (Octets count) at e octets body h = (h.0, octets_to at e octets body h.1)
+plain_to (Octets count) at e octets body h = (h.0 ∙ sym (mul-one count), octets_to at e octets body h.1)
 plain_to (Both s t) at e octets v h = (
   h.0,
   h.1,
@@ -149,7 +149,7 @@ plain_from (Unsigned size) at e octets n h = number_from size at e octets n h
 plain_from (CdrSigned w) at e octets z h = (h.0, number_from (byte_len w) at e octets h.0 h.1, h.2)
 plain_from Boolean at e octets b h = h
 plain_from CdrText at e octets text h = h.0
-plain_from (Octets count) at e octets body h = (h.0, octets_from at e octets body h.1)
+plain_from (Octets count) at e octets body h = (h.0 ∙ mul-one count, octets_from at e octets body h.1)
 plain_from (Both s t) at e octets v h =
     let rest = h.4 in
     let back : rest.0 ≡ h.1 = sym (append-nil rest.0)

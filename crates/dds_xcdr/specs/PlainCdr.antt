@@ -1,10 +1,10 @@
 -- Version 1 is the common data representation, where it speaks of the same types (DDS-XTypes
 -- 7.4.1).
-use Rattle.std.specs.Prelude.{ℕ, List, [], map, false}
+use Rattle.std.specs.Prelude.{ℕ, List, [], ◌∷◌, map, false}
 use Rattle.rtps_types.specs.declared.field.Endian.{Endian}
 use Rattle.rtps_cdr.specs.Cdr.{CdrType, Unsigned, Signed as CdrSigned, Boolean, Text as CdrText, Octets, Both, Sequence as CdrSequence, ValueOf as CdrValueOf, Free, IsCdr}
 use Rattle.dds_xcdr.specs.declared.version.Version.TheVariants.{One}
-use Rattle.dds_xcdr.specs.Xtype.{Xtype, Tag, Number, Signed, Truth, Text, Sequence, Array, Struct, none, field, ValueOf}
+use Rattle.dds_xcdr.specs.Xtype.{Xtype, Tag, Digits, Number, Signed, Truth, Text, Sequence, Array, Struct, none, field, ValueOf}
 use Rattle.dds_xcdr.specs.Xcdr.{IsXcdr}
 
 -- members of which only the types are known
@@ -13,11 +13,11 @@ unnamed = record { name = []; is_key = false }
 
 -- the same type, described
 abbrev pub lifted : CdrType → Xtype
-lifted (Unsigned size) = Number size
+lifted (Unsigned size) = Number Digits size
 lifted (CdrSigned w) = Signed w
 lifted Boolean = Truth
 lifted CdrText = Text 0
-lifted (Octets count) = Array (Number 1) count
+lifted (Octets count) = Array (Number Digits 1) (count ∷ [])
 lifted (Both s t) = Struct (field unnamed (lifted s) (field unnamed (lifted t) none))
 lifted (CdrSequence t) = Sequence (lifted t) 0
 

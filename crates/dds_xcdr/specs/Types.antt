@@ -5,6 +5,7 @@ use Rattle.std.specs.List.{All}
 use Rattle.std.specs.Int.{w8, w16, w32, w64}
 use Rattle.dds_xcdr.specs.declared.primitive.Primitive.{Primitive}
 use Rattle.dds_xcdr.specs.declared.primitive.Primitive.TheVariants.{Boolean, Octet, Char, Int8, Uint8, Int16, Uint16, Int32, Uint32, Int64, Uint64, Float, Double}
+use Rattle.dds_xcdr.specs.declared.member.Case.{Case}
 use Rattle.dds_xcdr.specs.declared.member.Member.{Member}
 use Rattle.dds_xcdr.specs.declared.member.TypeId.{TypeId}
 use Rattle.dds_xcdr.specs.declared.node.Node.{Node}
@@ -12,23 +13,23 @@ use Rattle.dds_xcdr.specs.declared.node.Node.TheVariants as node
 use Rattle.dds_xcdr.specs.declared.node.Entry.{Entry}
 use Rattle.dds_xcdr.specs.declared.fault.TypeFault.{TypeFault}
 use Rattle.dds_xcdr.specs.declared.fault.TypeFault.TheVariants.{Unknown, BadDimensions, NoMembers, TooDeep, TooMany, NoMemory}
-use Rattle.dds_xcdr.specs.Xtype.{Xtype, Fields, Number, Signed, Truth, Enum, Text, Sequence, Array, Struct, none, field, depth}
+use Rattle.dds_xcdr.specs.Xtype.{Xtype, Fields, Named, Digits, Character, Floating, Number, Signed, Truth, Enum, Text, Sequence, Array, Struct, none, field, depth}
 
--- the primitive types by their sizes (DDS-XTypes 7.2.2.2, 7.4.1.1.1)
+-- the primitive types by what they stand for and their sizes (DDS-XTypes 7.2.2.2, 7.4.1.1.1)
 abbrev pub plain : Primitive → Xtype
 plain Boolean = Truth
-plain Octet = Number 1
-plain Char = Number 1
+plain Octet = Number Digits 1
+plain Char = Number Character 1
 plain Int8 = Signed w8
-plain Uint8 = Number 1
+plain Uint8 = Number Digits 1
 plain Int16 = Signed w16
-plain Uint16 = Number 2
+plain Uint16 = Number Digits 2
 plain Int32 = Signed w32
-plain Uint32 = Number 4
+plain Uint32 = Number Digits 4
 plain Int64 = Signed w64
-plain Uint64 = Number 8
-plain Float = Number 4
-plain Double = Number 8
+plain Uint64 = Number Digits 8
+plain Float = Number Floating 4
+plain Double = Number Floating 8
 
 -- the type that an id names, where there is one
 abbrev pub type_in : List Xtype → TypeId → Xtype
@@ -41,13 +42,17 @@ fields_in types (m ∷ ms) =
     field (record { name = m.name.bytes.items; is_key = m.is_key }) (type_in types m.of)
     (fields_in types ms)
 
+-- the values of an enumeration
+abbrev pub values_of : List Case → List Named
+values_of cases = map (λ c. record { name = c.name.bytes.items; value = c.value }) cases
+
 -- what a description means after these types
 abbrev pub meant : List Xtype → Node → Xtype
 meant types (node.Plain p) = plain p
-meant types (node.Enum cases) = Enum
+meant types (node.Enum cases) = Enum (values_of cases.items)
 meant types (node.Text bound) = Text bound
 meant types (node.Sequence item bound) = Sequence (type_in types item) bound
-meant types (node.Array item dimensions) = Array (type_in types item) dimensions.count
+meant types (node.Array item dimensions) = Array (type_in types item) dimensions.sizes.items
 meant types (node.Struct members) = Struct (fields_in types members.items)
 
 -- the types after these

@@ -8,6 +8,7 @@ use Rattle.rtps_types.specs.Field.{number}
 use Rattle.rtps_cdr.specs.Cdr.{AreAll, Free, IsNumber as IsLength, IsText, padding}
 use Rattle.dds_xcdr.specs.declared.version.Version.{Version}
 use Rattle.dds_xcdr.specs.declared.version.Version.TheVariants.{One, Two}
+use Rattle.dds_xcdr.specs.Product.{product}
 use Rattle.dds_xcdr.specs.Xtype.{Xtype, Fields, Number, Signed, Truth, Enum, Text, Sequence, Array, Struct, none, field, ValueOf, ValuesOf, is_primitive}
 
 -- the alignment of a number is its size, and in version 2 at most 4 (DDS-XTypes 7.4.3.2.3)
@@ -56,19 +57,19 @@ IsCounted is at e xs octets =
 -- its own, in the order of their declarations (DDS-XTypes 7.4.1.1, 7.4.3.5)
 abbrev mutual
   pub IsXcdr : Version → (t : Xtype) → ℕ → Endian → List ℕ → ValueOf t → Type 0
-  IsXcdr v (Number size) at e octets n = IsNumber v size at e octets n
+  IsXcdr v (Number style size) at e octets n = IsNumber v size at e octets n
   IsXcdr v (Signed w) at e octets z =
       (n : ℕ) × IsNumber v (byte_len w) at e octets n × (z ≡ cast_signed w n)
   IsXcdr v Truth at e octets b = octets ≡ (if b then 1 else 0) ∷ []
-  IsXcdr v Enum at e octets z = (n : ℕ) × IsNumber v 4 at e octets n × (z ≡ cast_signed w32 n)
+  IsXcdr v (Enum values) at e octets z = (n : ℕ) × IsNumber v 4 at e octets n × (z ≡ cast_signed w32 n)
   IsXcdr v (Text bound) at e octets text =
       IsText Free at e octets text × IsWithin bound (length text)
   IsXcdr v (Sequence t bound) at e octets xs =
       IsWithin bound (length xs)
       × IsHeaded (has_header v t) at e
       (λ p os. IsCounted (λ q items x. IsXcdr v t q e items x) p e xs os) octets
-  IsXcdr v (Array t count) at e octets xs =
-      (length xs ≡ count)
+  IsXcdr v (Array t dimensions) at e octets xs =
+      (length xs ≡ product dimensions)
       × IsHeaded (has_header v t) at e
       (λ p os. AreAll (λ q items x. IsXcdr v t q e items x) p os xs) octets
   IsXcdr v (Struct fields) at e octets xs = AreFields v fields at e octets xs

@@ -7,9 +7,9 @@ ghost use Rattle.dds_xcdr.specs.declared.fault.XcdrFault.TheVariants.{Encapsulat
 ghost use Rattle.dds_xcdr.specs.Spans.{AreCountedItems, AreItems, AreMembers, IsBoundedText, IsSize, IsTruth, IsValue, Passes, Skips};
 ghost use Rattle.dds_xcdr.specs.Types.{fields_in, meant, plain, type_in, types_of};
 ghost use Rattle.dds_xcdr.specs.Xcdr.{IsWithin, alignment, has_header};
-ghost use Rattle.dds_xcdr.specs.Xtype.{Xtype, Array, Number, Sequence, number_size};
+ghost use Rattle.dds_xcdr.specs.Xtype.{Xtype, Array, Digits, Number, Sequence, number_size};
 
-use crate::{Member, Node, Primitive, TypeId, Types, Version, XcdrFault};
+use crate::{Dimensions, Member, Node, Primitive, TypeId, Types, Version, XcdrFault};
 use rtps_cdr::CdrReader;
 
 /// Returns the alignment of a number of `size` octets.
@@ -40,7 +40,7 @@ fn skip_numbers(
     reader: &mut CdrReader<'_>,
 ) -> Result<(), XcdrFault>
     requires { IsSize size }
-    ensures { Passes (AreItems version (Number size) count reader.old.endian) reader.old reader.new
+    ensures { Passes (AreItems version (Number Digits size) count reader.old.endian) reader.old reader.new
         result }
 {
     if count == 0 {
@@ -157,9 +157,7 @@ pub fn skip(
         Node::Enum(_) => skip_numbers(version, 4, 1, reader),
         Node::Text(bound) => skip_text(*bound, reader),
         Node::Sequence(item, bound) => skip_sequence(types, *item, *bound, version, reader),
-        Node::Array(item, dimensions) => {
-            skip_array(types, *item, dimensions.count, version, reader)
-        }
+        Node::Array(item, dimensions) => { skip_array(types, *item, dimensions, version, reader) }
         Node::Struct(members) => skip_members(types, of, members.as_slice(), version, reader),
     }
 }
@@ -221,23 +219,24 @@ fn skip_counted(
 fn skip_array(
     types: &Types,
     item: TypeId,
-    count: u32,
+    dimensions: &Dimensions,
     version: Version,
     reader: &mut CdrReader<'_>,
 ) -> Result<(), XcdrFault>
     requires { item.0 < length types.now }
     ensures { let t = type_in (types_of types.now) item in
-        Passes (IsValue version (Array t count) reader.old.endian) reader.old reader.new result }
+        Passes (IsValue version (Array t dimensions.now.sizes.items) reader.old.endian)
+        reader.old reader.new result }
 {
     if !has_header(version, types.node(item)) {
-        return skip_items(types, item, count, version, reader);
+        return skip_items(types, item, dimensions.count(), version, reader);
     }
     let octets = match reader.read_u32() {
         Ok(octets) => octets,
         Err(fault) => return Err(XcdrFault::Cdr(fault)),
     };
     let start = reader.position();
-    match skip_items(types, item, count, version, reader) {
+    match skip_items(types, item, dimensions.count(), version, reader) {
         Ok(()) => ends_at(start, octets, reader),
         Err(fault) => Err(fault),
     }

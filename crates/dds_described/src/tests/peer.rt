@@ -89,7 +89,7 @@ pub const ENUM_SEQ: [&str; 2] = [
 ];
 
 /// Adds a struct of these members.
-fn structure(
+pub fn structure(
     alloc: Global,
     types: &mut Types,
     members: &[(&str, TypeId, bool)],

@@ -1,5 +1,6 @@
-use Rattle.std.proofs.Common.{◌∙◌, refl, sym, ap, List, length}
+use Rattle.std.proofs.Common.{◌∙◌, refl, sym, ap, List, length, ℕ}
 use Rattle.dds_xcdr.specs.declared.node.Node.TheVariants as node
+use Rattle.dds_xcdr.specs.Product.{product}
 use Rattle.dds_xcdr.specs.Types.{type_in, types_of}
 use Rattle.dds_xcdr.specs.Xcdr.{has_header}
 use Rattle.dds_xcdr.specs.Xtype.{Xtype, Array, Sequence, ValueOf}
@@ -35,7 +36,7 @@ copy-returns-in-Array t c =
     let types : List Xtype = types_of c.args.types.now in
     rw (sym (means types c.node.result.now (node.Array c.in-Array.item c.in-Array.dimensions)
     (type_in types c.args.of) c.node.ensures.meant c.in-Array.is))
-    (rw (c.count.ensures.count) at (c.copy_array.ensures))
+    c.copy_array.ensures
 
 pub copy-returns-in-Struct : goal.copy-returns-in-Struct
 copy-returns-in-Struct t c =
@@ -49,15 +50,17 @@ copy-returns-in-Struct t c =
 pub copy_array-returns-then-is_behind : goal.copy_array-returns-then-is_behind
 copy_array-returns-then-is_behind t c =
     let types : List Xtype = types_of c.args.types.now in
+    let sizes : List ℕ = c.args.dimensions.now.sizes.items in
     let of : Xtype = type_in types c.args.item in
     header_kept (List (ValueOf of))
-    (λ d. items_found (λ e. value_found c.args.version of e) c.args.count d)
-    (λ at e xs. written (Array of c.args.count) at e xs) (has_header c.args.version of)
+    (λ d. items_found (λ e. value_found c.args.version of e) (product sizes) d)
+    (λ at e xs. written (Array of sizes) at e xs) (has_header c.args.version of)
     c.args.copier.now c.read_count.new.self c.copy_items-2.new.copier c.in-Ok.octets
     c.position-start.result
     (sym (sym c.if-not-has_header.false ∙ c.has_header.ensures types
     ∙ ap (λ (u : Xtype). has_header c.args.version u) c.node.ensures.meant))
-    c.in-Ok.ensures.value c.in-Ok.ensures.moves c.in-Ok-copy_items.ensures c.position-start.ensures
+    c.in-Ok.ensures.value c.in-Ok.ensures.moves
+    (rw (c.count-2.ensures.product) at (c.in-Ok-copy_items.ensures)) c.position-start.ensures
     (sym c.position.ensures ∙ c.if-is_behind.ensures.0 refl)
 
 pub copy_sequence-returns-then-is_behind : goal.copy_sequence-returns-then-is_behind

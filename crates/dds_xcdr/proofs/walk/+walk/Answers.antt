@@ -1,10 +1,11 @@
-use Rattle.std.proofs.Common.{◌∙◌, true, false, refl, sym, ap, List}
+use Rattle.std.proofs.Common.{◌∙◌, true, false, refl, sym, ap, List, ℕ}
 use Rattle.rtps_types.specs.declared.field.Endian.{Endian}
 use Rattle.dds_xcdr.specs.declared.node.Node.TheVariants as node
+use Rattle.dds_xcdr.specs.Product.{product}
 use Rattle.dds_xcdr.specs.Xtype.{Xtype, Enum, Struct, Text, number_size}
 use Rattle.dds_xcdr.specs.Xcdr.{has_header}
 use Rattle.dds_xcdr.specs.Spans.{AreCountedItems, AreItems}
-use Rattle.dds_xcdr.specs.Types.{fields_in, type_in, types_of}
+use Rattle.dds_xcdr.specs.Types.{fields_in, type_in, types_of, values_of}
 use Rattle.dds_xcdr.proofs.Alike.{items_alike, value_alike, value_known}
 use Rattle.dds_xcdr.proofs.Described.{means}
 use Rattle.dds_xcdr.proofs.Headers.{array_passes, counted_passes, counted_short, counted_too_long, headed_ends, headed_faulty, headed_short, sequence_passes}
@@ -18,10 +19,10 @@ skip-returns-in-Enum t c =
     let types : List Xtype = types_of c.args.types.now in
     let x = c.args.reader.now in
     let y = c.skip_numbers.new.reader in
-    value_known c.args.version Enum (type_in types c.args.of) x y c.skip_numbers.result
+    value_known c.args.version (Enum (values_of c.in-Enum.field-0.items)) (type_in types c.args.of) x y c.skip_numbers.result
     (means types c.node.result.now (node.Enum c.in-Enum.field-0) (type_in types c.args.of)
     c.node.ensures.meant c.in-Enum.is)
-    (value_alike c.args.version Enum 4 x y c.skip_numbers.result refl c.skip_numbers.ensures)
+    (value_alike c.args.version (Enum (values_of c.in-Enum.field-0.items)) 4 x y c.skip_numbers.result refl c.skip_numbers.ensures)
 
 pub skip-returns-in-Text : goal.skip-returns-in-Text
 skip-returns-in-Text t c =
@@ -47,8 +48,9 @@ pub skip_array-returns-then-not-has_header : goal.skip_array-returns-then-not-ha
 skip_array-returns-then-not-has_header t c =
     let types : List Xtype = types_of c.args.types.now in
     let of : Xtype = type_in types c.args.item in
-    array_passes c.args.version of c.args.count false c.args.reader.now c.skip_items.new.reader
+    array_passes c.args.version of c.args.dimensions.now.sizes.items c.count.result false c.args.reader.now c.skip_items.new.reader
     c.skip_items.result
+    c.count.ensures.product
     (sym c.if-not-has_header.true ∙ c.has_header.ensures types
     ∙ ap (λ (u : Xtype). has_header c.args.version u) c.node.ensures.meant)
     c.skip_items.ensures
@@ -56,22 +58,25 @@ skip_array-returns-then-not-has_header t c =
 pub skip_array-returns-in-Err : goal.skip_array-returns-in-Err
 skip_array-returns-in-Err t c =
     let types : List Xtype = types_of c.args.types.now in
+    let sizes : List ℕ = c.args.dimensions.now.sizes.items in
     let of : Xtype = type_in types c.args.item in
-    array_passes c.args.version of c.args.count true c.args.reader.now c.read_u32.new.self _
+    array_passes c.args.version of sizes (product sizes) true c.args.reader.now c.read_u32.new.self _
+    refl
     (sym c.if-not-has_header.false ∙ c.has_header.ensures types
     ∙ ap (λ (u : Xtype). has_header c.args.version u) c.node.ensures.meant)
-    (headed_short (AreItems c.args.version of c.args.count c.args.reader.now.endian)
+    (headed_short (AreItems c.args.version of (product sizes) c.args.reader.now.endian)
     c.args.reader.now c.read_u32.new.self c.in-Err.fault c.in-Err.ensures.reads)
 
 pub skip_array-returns-in-Ok-skip_items : goal.skip_array-returns-in-Ok-skip_items
 skip_array-returns-in-Ok-skip_items t c =
     let types : List Xtype = types_of c.args.types.now in
     let of : Xtype = type_in types c.args.item in
-    array_passes c.args.version of c.args.count true c.args.reader.now c.skip_items-2.new.reader
+    array_passes c.args.version of c.args.dimensions.now.sizes.items c.count-2.result true c.args.reader.now c.skip_items-2.new.reader
     c.ends_at.result
+    c.count-2.ensures.product
     (sym c.if-not-has_header.false ∙ c.has_header.ensures types
     ∙ ap (λ (u : Xtype). has_header c.args.version u) c.node.ensures.meant)
-    (headed_ends (λ (e : Endian). AreItems c.args.version of c.args.count e) c.args.reader.now
+    (headed_ends (λ (e : Endian). AreItems c.args.version of c.count-2.result e) c.args.reader.now
     c.read_u32.new.self c.skip_items-2.new.reader c.in-Ok.octets c.position-start.result tt
     c.ends_at.result c.in-Ok.ensures.reads c.in-Ok-skip_items.ensures c.position-start.ensures
     c.ends_at.ensures.ok c.ends_at.ensures.err c.ends_at.ensures.known)
@@ -80,10 +85,11 @@ pub skip_array-returns-in-Err-skip_items : goal.skip_array-returns-in-Err-skip_i
 skip_array-returns-in-Err-skip_items t c =
     let types : List Xtype = types_of c.args.types.now in
     let of : Xtype = type_in types c.args.item in
-    array_passes c.args.version of c.args.count true c.args.reader.now c.skip_items-2.new.reader _
+    array_passes c.args.version of c.args.dimensions.now.sizes.items c.count-2.result true c.args.reader.now c.skip_items-2.new.reader _
+    c.count-2.ensures.product
     (sym c.if-not-has_header.false ∙ c.has_header.ensures types
     ∙ ap (λ (u : Xtype). has_header c.args.version u) c.node.ensures.meant)
-    (headed_faulty (λ (e : Endian). AreItems c.args.version of c.args.count e) c.args.reader.now
+    (headed_faulty (λ (e : Endian). AreItems c.args.version of c.count-2.result e) c.args.reader.now
     c.read_u32.new.self c.skip_items-2.new.reader c.in-Ok.octets c.in-Err-skip_items.fault
     c.in-Ok.ensures.reads c.in-Err-skip_items.ensures)
 

@@ -1,7 +1,7 @@
 use Rattle.std.proofs.Common.{◌∙◌, sym}
 use Rattle.dds_xcdr.specs.TopicType.{topic_type}
 use Rattle.dds_described.proofs.TopicKeys.{payload_key_fails, payload_key_is}
-use Rattle.dds_described.proofs.described.Described.key_of_payload.Goals as goal
+use Rattle.dds_described.proofs.described.Described.payload_key_octets.Goals as goal
 
 pub returns-in-Ok : goal.returns-in-Ok
 returns-in-Ok c =
