@@ -35,7 +35,7 @@ array_text text [] xs = items_text text 0 xs
 array_text text (n ∷ ns) xs =
     bracketed (λ row. array_text text ns row) (parts n (product ns) xs)
 
--- a number by what it stands for: a character is a string, and a float is given by its bits
+-- a number by what its bits are: a character is a string, and a float is given by its bits
 abbrev pub number_text : Style → (size : ℕ) → ℕ → List ℕ
 number_text Digits size n = decimal n
 number_text Character size n = quoted (n ∷ [])

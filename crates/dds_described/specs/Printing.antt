@@ -10,7 +10,7 @@ abbrev pub Prints : {A : Type 0} → Found A → (A → List ℕ) → (old new :
 Prints {A} r text old new c after =
     (x : A) (end : ℕ) → r ≡ Some (x, end) → (new ≡ old ++ text x) × (after ≡ placed c end)
 
--- the reader behind a header that counts octets, if there is one
+-- the reader after a header that counts octets, if there is one
 abbrev pub after_header : Bool → Cursor → Cursor
 after_header false c = c
 after_header true c = behind c (found (number_in 4 c))

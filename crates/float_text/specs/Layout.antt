@@ -3,13 +3,13 @@ use Rattle.std.specs.Prelude.{ℕ, ◌+◌, ◌-◌, nat_lt, nat_le, if◌then�
 use Rattle.std.specs.Fmt.{decimal}
 use Rattle.float_text.specs.declared.format.Format.{Format}
 
--- the digits with the point behind the first one, if there are more
+-- the digits with the point after the first one, if there are more
 abbrev pub scientific : List ℕ → List ℕ
 scientific digits = if nat_le (length digits) 1 then digits else take 1 digits ++ codes "." ++ drop 1 digits
 
 -- The digits times 10 ^ (places - point). `before` is the sum of their count and of `places`: where
 -- it is above `point`, before - point digits stand before the point, and else point - before zeros
--- behind it. An exponent is written where these are more than the format allows.
+-- after it. An exponent is written where these are more than the format allows.
 unfoldable pub laid_out : Format → List ℕ → ℕ → ℕ → ℕ → List ℕ
 laid_out format digits places point before =
     if nat_le before point then

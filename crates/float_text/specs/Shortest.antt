@@ -1,4 +1,4 @@
--- The shortest decimal that reads as a float: as many digits are rounded away as can be.
+-- The shortest decimal that reads as a float: the most digits that can be are rounded away.
 use Rattle.std.specs.Prelude.{ℕ, zero, suc, ◌+◌, ◌-◌, ◌*◌, ◌/◌, ◌%◌, ◌^◌, Bool, ◌&&◌, ◌==◌, nat_lt, nat_le, if◌then◌else◌}
 
 -- the whole number that is nearest to below + rest / step; of two that are as near, the even one

@@ -11,7 +11,7 @@ pub(crate) struct Format {
     pub shift: u64,
     /// So many digits stand before the point at most.
     pub whole_digits: usize,
-    /// So many zeros stand at most behind the point of a number that begins with `0.`.
+    /// The most zeros after the point of a number that begins with `0.`.
     pub leading_zeros: usize,
 }
 

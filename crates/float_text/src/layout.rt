@@ -80,7 +80,7 @@ fn push_digits<A: Allocator>(out: &mut Vec<u8, A>, digits: &[u8]) -> Result<(), 
     out.extend_from_slice(digits)
 }
 
-/// Appends digits behind a point and zeros.
+/// Appends digits after a point and zeros.
 fn push_below_one<A: Allocator>(
     out: &mut Vec<u8, A>,
     format: &Format,
@@ -103,7 +103,7 @@ fn push_below_one<A: Allocator>(
     push_number(out, zeros as u64 + 1)
 }
 
-/// Appends digits with the point behind the first one.
+/// Appends digits with the point after the first one.
 fn push_scientific<A: Allocator>(out: &mut Vec<u8, A>, digits: &[u8]) -> Result<(), AllocError>
     ensures ok { OnOk result (out.new.items ≡ out.old.items ++ scientific digits.now) }
     ensures keeps { StartsWith out.new.items out.old.items }

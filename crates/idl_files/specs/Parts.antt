@@ -10,7 +10,7 @@ Text = List ℕ
 abbrev pub parts_of : Text → List Text
 parts_of text = slice_split (λ octet. octet == 44) text
 
--- the parts of a text by its first one, and what comes after the comma behind that
+-- the parts of a text by its first one, and the rest after the next comma
 abbrev pub parts_with : Text → Option Text → List Text
 parts_with first None = first ∷ []
 parts_with first (Some rest) = first ∷ parts_of rest

@@ -129,7 +129,7 @@ fn undeclared(alloc: Global, name: &str) -> TypesFault
 /// Returns the type of a name, as `nav_msgs::msg::dds_::Odometry_`, that files declare: 16 at the
 /// most, whose names `names` has with commas between them, each after those that it includes.
 ///
-/// `CannotRead` for the first file that can't be opened or read, `TooManyFiles` behind the 16th,
+/// `CannotRead` for the first file that can't be opened or read, `TooManyFiles` after the 16th,
 /// `Idl` for the first fault of a text, `NoType` if they declare no type of this name, and
 /// `NoMemory`.
 ///

@@ -9,7 +9,7 @@ use dds_xcdr::{Dimensions, Member, Primitive, TopicType, Types};
 use std::alloc::Global;
 use std::test::Fail;
 
-/// Returns the JSON of the value in a payload, behind a text that is there.
+/// Returns the JSON of the value in a payload, after a text that is there.
 fn json(alloc: Global, catalog: &Described, payload: &str) -> Result<Vec<u8>, Fail> {
     let (kind, body) = parts(alloc, payload)?;
     let value = catalog.read(alloc, kind, body.as_slice())?;
