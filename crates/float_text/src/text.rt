@@ -36,8 +36,8 @@ pub fn push_float<A: Allocator>(out: &mut Vec<u8, A>, bits: u32) -> Result<(), A
 /// Appends a binary64 (IEEE 754-2019, 3.4) as a JSON value (RFC 8259), by its bits as
 /// `f64::to_bits` gives them.
 ///
-/// A finite float is a number with the most of its digits rounded away, half to even, that leaves a
-/// number that still reads as the same float: `1.0`, `0.1`, `-0.0`. An exponent is written from
+/// A finite float is a number: digits are rounded away, half to even, as long as what is left still
+/// reads as the same float: `1.0`, `0.1`, `-0.0`. An exponent is written from
 /// `1e16` on and below `0.00001`, as in `1.5e-7`. JSON has no number for the others, which are the
 /// strings `"NaN"`, `"Infinity"` and `"-Infinity"`. So the text is the same for the same bits, but
 /// each NaN has the same one.
